@@ -1,0 +1,181 @@
+-- Document 01, The account file: where each number stands, and what a row means.
+use Prim.Native.Nat.{ℕ, _+_, _*_, _-_, _/_, _%_}
+use mathlib.Core.Bool.{Bool, cond}
+use mathlib.Core.List.{List}
+use lib.Dec.{eqb}
+use lib.ListN.{length, getD}
+use Rattle.rules.specs.declared.Barrier.{Barrier}
+use Rattle.rules.specs.declared.Barrier.the-variants.{NoBarrier, UpIn, DownIn, UpOut, DownOut}
+use Rattle.rules.specs.declared.Layout.{Layout}
+use Rattle.rules.specs.declared.Limiter.{Limiter}
+use Rattle.rules.specs.declared.Limiter.the-variants.{NoLimiter, At}
+use Rattle.rules.specs.declared.OptionType.{OptionType}
+use Rattle.rules.specs.declared.OptionType.the-variants.{Call, Put}
+use Rattle.rules.specs.declared.Position.{Position}
+use Rattle.rules.specs.declared.PositionRow.{PositionRow}
+use Rattle.rules.specs.declared.Series.{Series}
+use Rattle.rules.specs.declared.SeriesRow.{SeriesRow}
+use Rattle.rules.specs.declared.Side.{Side}
+use Rattle.rules.specs.declared.Side.the-variants.{Held, Written}
+
+-- A file is the list of its bytes. "little-endian": the low byte comes first. Past the end a byte counts as 0, so
+-- that every definition has a value; the reader never looks there.
+abbrev pub u8At : List ℕ → ℕ → ℕ
+u8At b i = getD b i 0
+
+abbrev pub u16At : List ℕ → ℕ → ℕ
+u16At b i = u8At b i + 256 * u8At b (i + 1)
+
+-- Three spare bytes are one number: it is zero exactly where each of them is.
+abbrev pub u24At : List ℕ → ℕ → ℕ
+u24At b i = u8At b i + 256 * u8At b (i + 1) + 65_536 * u8At b (i + 2)
+
+abbrev pub u32At : List ℕ → ℕ → ℕ
+u32At b i = u8At b i + 256 * u8At b (i + 1) + 65_536 * u8At b (i + 2) + 16_777_216 * u8At b (i + 3)
+
+-- "Trailer, 12 bytes: series count s, u16 .. position count p, u16 .. distance, u32, from the file's end back to the
+-- first series row .. four zero bytes." The trailer stands "at the very end".
+abbrev pub seriesCount : List ℕ → ℕ
+seriesCount b = u16At b (length b - 12)
+
+abbrev pub positionCount : List ℕ → ℕ
+positionCount b = u16At b (length b - 10)
+
+abbrev pub distance : List ℕ → ℕ
+distance b = u32At b (length b - 8)
+
+abbrev pub trailerSpare : List ℕ → ℕ
+trailerSpare b = u32At b (length b - 4)
+
+-- "equal to 12 + 24 × s + 32 × p"
+abbrev pub span : ℕ → ℕ → ℕ
+span s p = 12 + 24 * s + 32 * p
+
+-- Where the tables stand, by the trailer. The position rows follow the series rows.
+unfoldable pub layout : List ℕ → Layout
+layout b =
+    record {
+      series = seriesCount b;
+      positions = positionCount b;
+      start = length b - distance b;
+      middle = length b - distance b + 24 * seriesCount b;
+    }
+
+-- "Series row, 24 bytes: PV u32 .. fa u32 .. fb u32 .. f3 u32 .. M u32 .. type u8 .. three zero bytes."
+abbrev pub seriesRowFrom : List ℕ → ℕ → SeriesRow
+seriesRowFrom b at =
+    record {
+      pv = u32At b at;
+      fa = u32At b (at + 4);
+      fb = u32At b (at + 8);
+      f3 = u32At b (at + 12);
+      m = u32At b (at + 16);
+      option = u8At b (at + 20);
+      spare = u24At b (at + 21);
+    }
+
+-- Series row i of a file with the layout l.
+unfoldable pub seriesRow : List ℕ → Layout → ℕ → SeriesRow
+seriesRow b l i = seriesRowFrom b (l .start + 24 * i)
+
+-- "Position row, 32 bytes: series u16 .. side u8 .. barrier kind u8; flags u8; three zero bytes; then u32 each: Q ..
+-- PE .. PB; barrier price; REB .. unsettled premium".
+abbrev pub positionRowFrom : List ℕ → ℕ → PositionRow
+positionRowFrom b at =
+    record {
+      series = u16At b at;
+      side = u8At b (at + 2);
+      kind = u8At b (at + 3);
+      flags = u8At b (at + 4);
+      spare = u24At b (at + 5);
+      q = u32At b (at + 8);
+      pe = u32At b (at + 12);
+      pb = u32At b (at + 16);
+      price = u32At b (at + 20);
+      reb = u32At b (at + 24);
+      premium = u32At b (at + 28);
+    }
+
+-- Position row i of a file with the layout l.
+unfoldable pub positionRow : List ℕ → Layout → ℕ → PositionRow
+positionRow b l i = positionRowFrom b (l .middle + 32 * i)
+
+-- "Flags: 1 already knocked in .. 2 has a limiter, 4 European, 8 opened before the annex"
+abbrev pub knockedInFlag : ℕ → Bool
+knockedInFlag flags = eqb (flags % 2) 1
+
+abbrev pub limiterFlag : ℕ → Bool
+limiterFlag flags = eqb (flags / 2 % 2) 1
+
+abbrev pub europeanFlag : ℕ → Bool
+europeanFlag flags = eqb (flags / 4 % 2) 1
+
+abbrev pub oldFlag : ℕ → Bool
+oldFlag flags = eqb (flags / 8 % 2) 1
+
+-- "type u8, 0 call, 1 put"
+abbrev pub optionOf : ℕ → OptionType
+optionOf n = cond (eqb n 0) Call Put
+
+-- "side u8, 0 held, 1 written"
+abbrev pub sideOf : ℕ → Side
+sideOf n = cond (eqb n 0) Held Written
+
+-- "A barrier is none (0), up-and-in (1), down-and-in (2), up-and-out (3) or down-and-out (4), each with its price"
+abbrev pub barrierOf : ℕ → ℕ → Barrier
+barrierOf kind price =
+    cond (eqb kind 1) (UpIn price)
+    (cond (eqb kind 2) (DownIn price) (cond (eqb kind 3) (UpOut price) (cond (eqb kind 4) (DownOut price) NoBarrier)))
+
+abbrev pub limiterOf : ℕ → ℕ → Limiter
+limiterOf flags pb = cond (limiterFlag flags) (At pb) NoLimiter
+
+-- What a series row means.
+abbrev pub seriesOf : SeriesRow → Series
+seriesOf r =
+    record {
+      pv = r .pv;
+      fa = r .fa;
+      fb = r .fb;
+      f3 = r .f3;
+      m = r .m;
+      option = optionOf (r .option);
+    }
+
+-- What a position row means.
+abbrev pub positionOf : PositionRow → Position
+positionOf r =
+    record {
+      series = r .series;
+      side = sideOf (r .side);
+      barrier = barrierOf (r .kind) (r .price);
+      limiter = limiterOf (r .flags) (r .pb);
+      knocked = knockedInFlag (r .flags);
+      european = europeanFlag (r .flags);
+      old = oldFlag (r .flags);
+      q = r .q;
+      pe = r .pe;
+      reb = r .reb;
+      premium = r .premium;
+    }
+
+-- An account: its series and its positions, each counted from 0.
+pub record Account : Type 0 where
+  pub series : ℕ
+  pub seriesAt : ℕ → Series
+  pub positions : ℕ
+  pub positionAt : ℕ → Position
+
+-- The account of a file with the layout l.
+abbrev pub accountOf : List ℕ → Layout → Account
+accountOf b l =
+    record {
+      series = l .series;
+      seriesAt = λ i. seriesOf (seriesRow b l i);
+      positions = l .positions;
+      positionAt = λ i. positionOf (positionRow b l i);
+    }
+
+-- The series of position row r.
+abbrev pub seriesOfRow : Account → ℕ → Series
+seriesOfRow a r = a .seriesAt (a .positionAt r .series)

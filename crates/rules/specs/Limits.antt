@@ -1,0 +1,73 @@
+-- Document 01, The account file: its limits as plain ranges and sizes, with no reference to the reader's tests.
+use Prim.Native.Nat.{ℕ, _/_, _%_, _≤_, _<_}
+use mathlib.Core.List.{List}
+use mathlib.Core.Logic.{_⊎_}
+use mathlib.Core.Path.{_≡_}
+use lib.ListN.{length}
+use Rattle.rules.specs.File.{distance, layout, positionCount, positionRow, seriesCount, seriesRow, span, trailerSpare}
+use Rattle.rules.specs.declared.PositionRow.{PositionRow}
+use Rattle.rules.specs.declared.SeriesRow.{SeriesRow}
+
+-- "PV u32, 1 to 10,000,000; fa u32, 1,000,000 to 10,000,000; fb u32, 0 to fa; f3 u32, 0 to 1,000,000; M u32, 1 to
+-- 1,000; type u8, 0 call, 1 put; three zero bytes"
+pub record SeriesWithin (r : SeriesRow) : Type 0 where
+  pub pv-least : 1 ≤ r .pv
+  pub pv-most : r .pv ≤ 10_000_000
+  pub fa-least : 1_000_000 ≤ r .fa
+  pub fa-most : r .fa ≤ 10_000_000
+  pub fb-most : r .fb ≤ r .fa
+  pub f3-most : r .f3 ≤ 1_000_000
+  pub m-least : 1 ≤ r .m
+  pub m-most : r .m ≤ 1_000
+  pub option-most : r .option ≤ 1
+  pub spare-zero : r .spare ≡ 0
+
+-- A position row, in an account of s series, whose series row is k.
+pub record PositionWithin (s : ℕ) (k : SeriesRow) (r : PositionRow) : Type 0 where
+  -- "series u16, below s; side u8, 0 held, 1 written"
+  pub series-below : r .series < s
+  pub side-most : r .side ≤ 1
+  -- "none (0), up-and-in (1), down-and-in (2), up-and-out (3) or down-and-out (4)"
+  pub kind-most : r .kind ≤ 4
+  -- "Flags: 1 already knocked in (kinds 1 and 2 only), 2 has a limiter, 4 European, 8 opened before the annex; other
+  -- bits zero"
+  pub flags-most : r .flags ≤ 15
+  pub knocked-kind : r .flags % 2 ≡ 1 → (1 ≤ r .kind) × (r .kind ≤ 2)
+  pub spare-zero : r .spare ≡ 0
+  -- "Q 1 to 100,000; PE 1 to 10,000,000"
+  pub q-least : 1 ≤ r .q
+  pub q-most : r .q ≤ 100_000
+  pub pe-least : 1 ≤ r .pe
+  pub pe-most : r .pe ≤ 10_000_000
+  -- "REB 0 to 10,000,000; unsettled premium 0 to 10,000,000, zero on a written row"
+  pub reb-most : r .reb ≤ 10_000_000
+  pub premium-most : r .premium ≤ 10_000_000
+  pub premium-written : r .side ≡ 1 → r .premium ≡ 0
+  -- "Without the limiter flag PB is 0. With it, a call has PE < PB ≤ 10,000,000 and a put 0 ≤ PB < PE."
+  pub pb-none : r .flags / 2 % 2 ≡ 0 → r .pb ≡ 0
+  pub pb-call : r .flags / 2 % 2 ≡ 1 → k .option ≡ 0 → (r .pe < r .pb) × (r .pb ≤ 10_000_000)
+  pub pb-put : r .flags / 2 % 2 ≡ 1 → k .option ≡ 1 → r .pb < r .pe
+  -- "Kind 0 has barrier price 0 and REB 0. Other kinds have a price of 1 to 10,000,000"
+  pub price-none : r .kind ≡ 0 → r .price ≡ 0
+  pub reb-none : r .kind ≡ 0 → r .reb ≡ 0
+  pub price-some : 1 ≤ r .kind → (1 ≤ r .price) × (r .price ≤ 10_000_000)
+  -- "above PV for kinds 1 and 3, below PV for kinds 2 and 4, except where flag 1 is set"
+  pub price-above : r .flags % 2 ≡ 0 → (r .kind ≡ 1) ⊎ (r .kind ≡ 3) → k .pv < r .price
+  pub price-below : r .flags % 2 ≡ 0 → (r .kind ≡ 2) ⊎ (r .kind ≡ 4) → r .price < k .pv
+
+-- The whole file.
+pub record FileWithin (b : List ℕ) : Type 0 where
+  -- "At most 65,536 bytes"; room for the trailer's 12
+  pub size-least : 12 ≤ length b
+  pub size-most : length b ≤ 65_536
+  -- "series count s, u16, 1 to 32; position count p, u16, 1 to 256"
+  pub series-least : 1 ≤ seriesCount b
+  pub series-most : seriesCount b ≤ 32
+  pub positions-least : 1 ≤ positionCount b
+  pub positions-most : positionCount b ≤ 256
+  -- "distance, u32, from the file's end back to the first series row, equal to 12 + 24 × s + 32 × p; four zero bytes"
+  pub distance-is : distance b ≡ span (seriesCount b) (positionCount b)
+  pub distance-most : distance b ≤ length b
+  pub spare-zero : trailerSpare b ≡ 0
+  pub series-rows : (i : ℕ) → i < seriesCount b → SeriesWithin (seriesRow b (layout b) i)
+  pub position-rows : (i : ℕ) → i < positionCount b → PositionWithin (seriesCount b) (seriesRow b (layout b) (positionRow b (layout b) i .series)) (positionRow b (layout b) i)

@@ -1,0 +1,121 @@
+-- Document 01, Pairs: spread amounts, lines and total.
+use Prim.Native.Nat.{ℕ, zero, suc, _+_}
+use mathlib.Core.Bool.{Bool, true, false, cond}
+use mathlib.Core.List.{List, [], _∷_, _++_}
+use lib.Dec.{eqb, ltb}
+use lib.ListN.{length, drop}
+use Rattle.rules.specs.File.{Account, accountOf, seriesOfRow}
+use Rattle.rules.specs.OnePosition.{amountOf, premiumOf, unitMargin}
+use Rattle.rules.specs.Pairs.{Made, contractsLeft, pairsMade}
+use Rattle.rules.specs.Refusals.{fileRead}
+use Rattle.rules.specs.Spreads.{unitSpread}
+use Rattle.rules.specs.declared.FileRead.{FileRead}
+use Rattle.rules.specs.declared.FileRead.the-variants.{Accepted, Refused}
+use Rattle.rules.specs.declared.Line.{Line}
+use Rattle.rules.specs.declared.MarginAnswer.{MarginAnswer}
+use Rattle.rules.specs.declared.MarginAnswer.the-variants.{Total, NoTotal}
+use Rattle.rules.specs.declared.Position.{Position}
+use Rattle.rules.specs.declared.Refusal.the-variants.{ListTooShort}
+use Rattle.rules.specs.declared.Series.{Series}
+use Rattle.rules.specs.declared.Side.{Side}
+use Rattle.rules.specs.declared.Side.the-variants.{Held, Written}
+use Rattle.rules.specs.declared.Spread.{Spread}
+use Rattle.rules.specs.declared.Spread.the-variants.{Barred, Margin}
+
+-- The sum of f over 0 to n - 1, and over the elements of a list.
+unfoldable pub sumTo : (ℕ → ℕ) → ℕ → ℕ
+sumTo f zero = 0
+sumTo f (suc n) = sumTo f n + f n
+
+unfoldable pub sumOver : {A : Type 0} → (A → ℕ) → List A → ℕ
+sumOver f [] = 0
+sumOver f (x ∷ l) = f x + sumOver f l
+
+-- "A spread amount is unit × M × quantity, rounded as above". A barred pair is never made.
+abbrev pub spreadUnit : Spread → ℕ
+spreadUnit Barred = 0
+spreadUnit (Margin unit) = unit
+
+abbrev pub spreadAmount : Account → Made → ℕ
+spreadAmount a m =
+    amountOf
+    (spreadUnit (unitSpread (seriesOfRow a (m .written)) (a .positionAt (m .held)) (a .positionAt (m .written))))
+    (seriesOfRow a (m .written) .m)
+    (m .quantity)
+
+-- "pairs as made (written row, held row, quantity, amount)"; "1 for a pair .. then those fields in that order"
+abbrev pub pairLine : Account → Made → Line
+pairLine a m =
+    record {
+      kind = 1;
+      first = m .written;
+      second = m .held;
+      third = m .quantity;
+      fourth = spreadAmount a m;
+    }
+
+unfoldable pub pairLines : Account → List Made → List Line
+pairLines a [] = []
+pairLines a (m ∷ rest) = pairLine a m ∷ pairLines a rest
+
+-- "(row, quantity, amount, 0 if held)": a written row's amount is that of one position, for the quantity left.
+abbrev pub leftAmount : Side → Series → Position → ℕ → ℕ
+leftAmount Held s p quantity = 0
+leftAmount Written s p quantity = amountOf (unitMargin s p) (s .m) quantity
+
+-- "2 for a row left .. a left entry's fifth number is 0"
+abbrev pub leftLine : Account → ℕ → ℕ → Line
+leftLine a r quantity =
+    record {
+      kind = 2;
+      first = r;
+      second = quantity;
+      third = leftAmount (a .positionAt r .side) (seriesOfRow a r) (a .positionAt r) quantity;
+      fourth = 0;
+    }
+
+-- "then rows with contracts left, in row order": rows 0 to n - 1.
+unfoldable pub leftLines : Account → (ℕ → ℕ) → ℕ → List Line
+leftLines a left zero = []
+leftLines a left (suc r) = leftLines a left r ++ cond (ltb 0 (left r)) (leftLine a r (left r) ∷ []) []
+
+-- The lines of an account.
+unfoldable pub lines : Account → List Line
+lines a = pairLines a (pairsMade a) ++ leftLines a (contractsLeft a) (a .positions)
+
+-- A line's amount: a pair's is its fifth number, a left row's its fourth.
+abbrev pub lineAmount : Line → ℕ
+lineAmount x = cond (eqb (x .kind) 1) (x .fourth) (x .third)
+
+-- "premium × M × Q of every held row, paired or not"
+abbrev pub heldPremium : Side → Series → Position → ℕ
+heldPremium Held s p = premiumOf s p
+heldPremium Written s p = 0
+
+unfoldable pub premiums : Account → ℕ
+premiums a = sumTo (λ r. heldPremium (a .positionAt r .side) (seriesOfRow a r) (a .positionAt r)) (a .positions)
+
+-- "Total = line amounts + premium × M × Q of every held row"
+unfoldable pub total : Account → ℕ
+total a = sumOver lineAmount (lines a) + premiums a
+
+-- The answer for a file and a list of n entries: the reading's refusal, then 12, "list has fewer than p entries", with
+-- row 0; else the line count and the total.
+abbrev pub marginForList : List ℕ → ℕ → FileRead → MarginAnswer
+marginForList b n (Refused w i) = NoTotal w i
+marginForList b n (Accepted l) =
+    cond (ltb n (l .positions)) (NoTotal ListTooShort 0)
+    (Total (length (lines (accountOf b l))) (total (accountOf b l)))
+
+unfoldable pub marginAnswer : List ℕ → ℕ → MarginAnswer
+marginAnswer b n = marginForList b n (fileRead b)
+
+-- What the list holds after that answer: the lines, and "entries after it stay"; on a refusal "Every lent list keeps
+-- its content".
+abbrev pub listFor : List ℕ → List Line → FileRead → MarginAnswer → List Line
+listFor b out read (NoTotal w i) = out
+listFor b out (Refused w i) (Total n t) = out
+listFor b out (Accepted l) (Total n t) = lines (accountOf b l) ++ drop n out
+
+unfoldable pub listAfter : List ℕ → List Line → List Line
+listAfter b out = listFor b out (fileRead b) (marginAnswer b (length out))

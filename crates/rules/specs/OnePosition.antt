@@ -1,0 +1,158 @@
+-- Document 01, One position (annex sections 1 to 4).
+use Prim.Native.Nat.{ℕ, _*_, _-_, min, max}
+use mathlib.Core.Bool.{Bool, true, false, cond}
+use mathlib.Core.List.{List}
+use lib.Dec.{leb, ltb}
+use lib.IntN.{ℤ, pos, negℤ}
+use Rattle.rules.specs.File.{Account, accountOf, seriesOfRow}
+use Rattle.rules.specs.Quantities.{fine, high, low, minimum, roundedUp}
+use Rattle.rules.specs.Refusals.{fileRead, number}
+use Rattle.rules.specs.declared.AmountAnswer.{AmountAnswer}
+use Rattle.rules.specs.declared.AmountAnswer.the-variants.{Amount, NoAmount}
+use Rattle.rules.specs.declared.Barrier.{Barrier}
+use Rattle.rules.specs.declared.Barrier.the-variants.{NoBarrier, UpIn, DownIn, UpOut, DownOut}
+use Rattle.rules.specs.declared.FileRead.{FileRead}
+use Rattle.rules.specs.declared.FileRead.the-variants.{Accepted, Refused}
+use Rattle.rules.specs.declared.Limiter.{Limiter}
+use Rattle.rules.specs.declared.Limiter.the-variants.{NoLimiter, At}
+use Rattle.rules.specs.declared.OptionType.{OptionType}
+use Rattle.rules.specs.declared.OptionType.the-variants.{Call, Put}
+use Rattle.rules.specs.declared.Position.{Position}
+use Rattle.rules.specs.declared.Refusal.the-variants.{RowAskedFor}
+use Rattle.rules.specs.declared.Series.{Series}
+use Rattle.rules.specs.declared.Side.{Side}
+use Rattle.rules.specs.declared.Side.the-variants.{Held, Written}
+
+-- "Flag 1 makes the position one without barrier and with REB 0."
+abbrev pub knockedIn : Bool → Position → Position
+knockedIn false p = p
+knockedIn true p =
+    record {
+      series = p .series;
+      side = p .side;
+      barrier = NoBarrier;
+      limiter = p .limiter;
+      knocked = p .knocked;
+      european = p .european;
+      old = p .old;
+      q = p .q;
+      pe = p .pe;
+      reb = 0;
+      premium = p .premium;
+    }
+
+-- The normalised position: after flag 1.
+abbrev pub normal : Position → Position
+normal p = knockedIn (p .knocked) p
+
+-- REB in fine units.
+abbrev pub rebate : Position → ℕ
+rebate p = fine (p .reb)
+
+-- "No limiter: PB = H for a call, L for a put." PB in fine units, where x is that H or L.
+abbrev pub limitOr : Limiter → ℕ → ℕ
+limitOr NoLimiter x = x
+limitOr (At pb) x = fine pb
+
+abbrev pub callLimit : Series → Position → ℕ
+callLimit s p = limitOr (p .limiter) (high s)
+
+abbrev pub putLimit : Series → Position → ℕ
+putLimit s p = limitOr (p .limiter) (low s)
+
+-- "Call payoff C = min(PB; H) − PE", at the H in force.
+abbrev pub callPayoff : Series → Position → ℕ → ℕ
+callPayoff s p h = min (callLimit s p) h - fine (p .pe)
+
+-- "put payoff P = PE − max(PB; L)", at the L in force.
+abbrev pub putPayoff : Series → Position → ℕ → ℕ
+putPayoff s p l = fine (p .pe) - max (putLimit s p) l
+
+-- "max(MM; REB)"
+abbrev pub orRebate : Series → Position → ℕ
+orRebate s p = max (minimum s) (rebate p)
+
+-- "max(MM; x)"
+abbrev pub orMinimum : Series → ℕ → ℕ
+orMinimum s x = max (minimum s) x
+
+-- "max(MM; REB; x)"
+abbrev pub orEither : Series → Position → ℕ → ℕ
+orEither s p x = max (minimum s) (max (rebate p) x)
+
+-- The unit margin of a written call, by its barrier.
+abbrev pub callUnit : Barrier → Series → Position → ℕ
+-- "Otherwise max(MM; REB; C)"
+callUnit NoBarrier s p = orEither s p (callPayoff s p (high s))
+-- "Up-and-in with H < IU .. max(MM; REB)", otherwise max(MM; REB; C)
+callUnit (UpIn iu) s p =
+    cond (ltb (high s) (fine iu)) (orRebate s p) (orEither s p (callPayoff s p (high s)))
+-- "down-and-in with L > ID: max(MM; REB)"; "Call, down-and-in, L ≤ ID: from here H is ID × fa"
+callUnit (DownIn id) s p =
+    cond (ltb (fine id) (low s)) (orRebate s p) (orEither s p (callPayoff s p (id * s .fa)))
+-- "Up-and-out call: H < OU gives max(MM; C), else max(MM; REB; min(PB; OU) − PE)"
+callUnit (UpOut ou) s p =
+    cond (ltb (high s) (fine ou)) (orMinimum s (callPayoff s p (high s)))
+    (orEither s p (callPayoff s p (fine ou)))
+-- "Down-and-out call: L > OD gives max(MM; C), else max(MM; REB; C)"
+callUnit (DownOut od) s p =
+    cond (ltb (fine od) (low s)) (orMinimum s (callPayoff s p (high s)))
+    (orEither s p (callPayoff s p (high s)))
+
+-- The unit margin of a written put, by its barrier.
+abbrev pub putUnit : Barrier → Series → Position → ℕ
+-- "Otherwise .. max(MM; REB; P)"
+putUnit NoBarrier s p = orEither s p (putPayoff s p (low s))
+-- "Up-and-in with H < IU .. max(MM; REB)"; "Put, up-and-in, H ≥ IU: from here L is IU × fb"
+putUnit (UpIn iu) s p =
+    cond (ltb (high s) (fine iu)) (orRebate s p) (orEither s p (putPayoff s p (iu * s .fb)))
+-- "down-and-in with L > ID: max(MM; REB)", otherwise max(MM; REB; P)
+putUnit (DownIn id) s p =
+    cond (ltb (fine id) (low s)) (orRebate s p) (orEither s p (putPayoff s p (low s)))
+-- "Up-and-out put: H < OU gives max(MM; P), else max(MM; REB; P)"
+putUnit (UpOut ou) s p =
+    cond (ltb (high s) (fine ou)) (orMinimum s (putPayoff s p (low s)))
+    (orEither s p (putPayoff s p (low s)))
+-- "Down-and-out put: L > OD gives max(MM; P), else max(MM; REB; PE − max(PB; OD))"
+putUnit (DownOut od) s p =
+    cond (ltb (fine od) (low s)) (orMinimum s (putPayoff s p (low s)))
+    (orEither s p (putPayoff s p (fine od)))
+
+abbrev pub unitBy : OptionType → Barrier → Series → Position → ℕ
+unitBy Call bar s p = callUnit bar s p
+unitBy Put bar s p = putUnit bar s p
+
+-- "Written, unit margin in fine units, first rule that applies", after flag 1.
+unfoldable pub unitMargin : Series → Position → ℕ
+unitMargin s p = unitBy (s .option) (normal p .barrier) s (normal p)
+
+-- "unit × M × Q, divided by 1,000,000 and rounded up once"
+abbrev pub amountOf : ℕ → ℕ → ℕ → ℕ
+amountOf unit m q = roundedUp (unit * m * q)
+
+-- "premium × M × Q, exact"
+abbrev pub premiumOf : Series → Position → ℕ
+premiumOf s p = p .premium * s .m * p .q
+
+-- A position's amount: "Held: the amount is premium × M × Q"; written: by its unit margin.
+abbrev pub amountBySide : Side → Series → Position → ℕ
+amountBySide Held s p = premiumOf s p
+amountBySide Written s p = amountOf (unitMargin s p) (s .m) (p .q)
+
+unfoldable pub positionAmount : Account → ℕ → ℕ
+positionAmount a r = amountBySide (a .positionAt r .side) (seriesOfRow a r) (a .positionAt r)
+
+-- "it hands over the file's bytes and a row and takes back that position's amount, or the refusal": the reading's
+-- refusal first, then 13, "row p or above", with row 0.
+abbrev pub amountForRow : List ℕ → ℕ → FileRead → AmountAnswer
+amountForRow b row (Refused w i) = NoAmount w i
+amountForRow b row (Accepted l) =
+    cond (leb (l .positions) row) (NoAmount RowAskedFor 0) (Amount (positionAmount (accountOf b l) row))
+
+unfoldable pub amountAnswer : List ℕ → ℕ → AmountAnswer
+amountAnswer b row = amountForRow b row (fileRead b)
+
+-- "or the refusal number with a minus sign"
+abbrev pub signedAnswer : AmountAnswer → ℤ
+signedAnswer (Amount n) = pos n
+signedAnswer (NoAmount w i) = negℤ (pos (number w))

@@ -1,0 +1,104 @@
+-- Document 01, Paths: "Demand 3 means this, for every accepted file", each of its four bullets as a type.
+use Prim.Native.Nat.{ℕ, _+_, _*_, _-_, _≤_, _<_}
+use mathlib.Core.Bool.{Bool, true, false, cond, _&&_, _||_}
+use mathlib.Core.List.{List}
+use mathlib.Core.Path.{_≡_}
+use lib.Dec.{eqb}
+use Rattle.rules.specs.File.{Account, seriesOfRow}
+use Rattle.rules.specs.Lines.{lines, sumOver, sumTo, total}
+use Rattle.rules.specs.OnePosition.{unitMargin}
+use Rattle.rules.specs.Pairs.{allowed, bookOf}
+use Rattle.rules.specs.Paths.{IsPath, payment}
+use Rattle.rules.specs.Quantities.{minimum}
+use Rattle.rules.specs.Refusals.{accepted, meaning}
+use Rattle.rules.specs.declared.Line.{Line}
+use Rattle.rules.specs.declared.Position.{Position}
+use Rattle.rules.specs.declared.Series.{Series}
+use Rattle.rules.specs.declared.Side.{Side}
+use Rattle.rules.specs.declared.Side.the-variants.{Held, Written}
+
+-- "where every fb is at most 1,000,000"
+abbrev pub LowFactors : Account → Type 0
+LowFactors a = (i : ℕ) → i < a .series → a .seriesAt i .fb ≤ 1_000_000
+
+-- "every choice of one path for each series"
+abbrev pub OnePathEach : Account → (ℕ → List ℕ) → Type 0
+OnePathEach a path = (i : ℕ) → i < a .series → IsPath (a .seriesAt i) (path i)
+
+-- "All rows of a series follow its path."
+abbrev pub paymentOfRow : Account → (ℕ → List ℕ) → ℕ → ℕ
+paymentOfRow a path r = payment (seriesOfRow a r) (a .positionAt r) (path (a .positionAt r .series))
+
+-- "A written row pays out its payment × M × Q."
+abbrev pub paysOut : Side → ℕ → ℕ → ℕ → ℕ
+paysOut Held pays m q = 0
+paysOut Written pays m q = pays * m * q
+
+abbrev pub paidOut : Account → (ℕ → List ℕ) → ℕ
+paidOut a path =
+    sumTo (λ r. paysOut (a .positionAt r .side) (paymentOfRow a path r) (seriesOfRow a r .m) (a .positionAt r .q))
+    (a .positions)
+
+-- "A pair brings in its held row's payment × M × the pair's quantity"; "held contracts outside the pairs bring in
+-- nothing". A pair line's numbers are 1, written row, held row, quantity, amount.
+abbrev pub bringsIn : Account → (ℕ → List ℕ) → Line → ℕ
+bringsIn a path x =
+    cond (eqb (x .kind) 1) (paymentOfRow a path (x .second) * seriesOfRow a (x .second) .m * x .third) 0
+
+abbrev pub broughtIn : Account → (ℕ → List ℕ) → ℕ
+broughtIn a path = sumOver (bringsIn a path) (lines a)
+
+-- "for every choice of one path for each series, total × 1,000,000 plus what the pairs bring in is at least what the
+-- written rows pay out."
+abbrev pub Cover : Account → Type 0
+Cover a = (path : ℕ → List ℕ) → OnePathEach a path → paidOut a path ≤ total a * 1_000_000 + broughtIn a path
+
+-- The quantity of a pair line that names row r, and of the left line of row r.
+abbrev pub pairQuantity : ℕ → Line → ℕ
+pairQuantity r x = cond (eqb (x .kind) 1 && (eqb (x .first) r || eqb (x .second) r)) (x .third) 0
+
+abbrev pub leftQuantity : ℕ → Line → ℕ
+leftQuantity r x = cond (eqb (x .kind) 2 && eqb (x .first) r) (x .second) 0
+
+-- "for every row, the quantities of the pair lines that name it and the quantity of its left line (0 if it has none)
+-- add up to Q."
+abbrev pub Contracts : Account → Type 0
+Contracts a =
+    (r : ℕ) → r < a .positions → sumOver (pairQuantity r) (lines a) + sumOver (leftQuantity r) (lines a) ≡ a .positionAt r .q
+
+-- "with the contracts left in a row being Q less the quantities of the pair lines that name it"
+abbrev pub unpaired : Account → ℕ → ℕ
+unpaired a r = a .positionAt r .q - sumOver (pairQuantity r) (lines a)
+
+-- "after all pair lines .. no pair is allowed."
+abbrev pub Unmade : Account → Type 0
+Unmade a =
+    (w h : ℕ) → w < a .positions → h < a .positions → allowed (bookOf a) (unpaired a) w h ≡ false
+
+-- "an amount per unit, in whole fine units, covers a position if it is at least the position's payment on every path
+-- of its series."
+abbrev pub Covers : Series → Position → ℕ → Type 0
+Covers s p amount = (path : List ℕ) → IsPath s path → payment s p path ≤ amount
+
+-- "The unit margin of each written row covers it. Every other amount that covers it and is at least MM is, with one
+-- fine unit added, at least that unit margin."
+abbrev pub LeastFor : Series → Position → Type 0
+LeastFor s p =
+    Covers s p (unitMargin s p) × ((amount : ℕ) → Covers s p amount → minimum s ≤ amount → unitMargin s p ≤ amount + 1)
+
+abbrev pub Least : Account → Type 0
+Least a =
+    (r : ℕ) → r < a .positions → a .positionAt r .side ≡ Written → LeastFor (seriesOfRow a r) (a .positionAt r)
+
+-- Demand 3 of a file: for whatever account its bytes mean.
+abbrev pub CoverDemand : List ℕ → Type 0
+CoverDemand b = (a : Account) → meaning b ≡ accepted a → LowFactors a → Cover a
+
+abbrev pub ContractsDemand : List ℕ → Type 0
+ContractsDemand b = (a : Account) → meaning b ≡ accepted a → Contracts a
+
+abbrev pub UnmadeDemand : List ℕ → Type 0
+UnmadeDemand b = (a : Account) → meaning b ≡ accepted a → Unmade a
+
+abbrev pub LeastDemand : List ℕ → Type 0
+LeastDemand b = (a : Account) → meaning b ≡ accepted a → LowFactors a → Least a

@@ -1,0 +1,196 @@
+-- Document 01, Where a file is turned back: each refusal a test, in the order of the table, and the one meaning of a
+-- file.
+use Prim.Native.Nat.{ℕ, zero, suc}
+use mathlib.Core.Bool.{Bool, true, false, not, _&&_, _||_}
+use mathlib.Core.List.{List}
+use lib.Dec.{eqb, leb, ltb}
+use lib.ListN.{length}
+use Rattle.rules.specs.File.{Account, accountOf, distance, knockedInFlag, layout, limiterFlag, positionCount, positionOf, positionRow, seriesCount, seriesRow, span, trailerSpare}
+use Rattle.rules.specs.declared.Fault.{Fault}
+use Rattle.rules.specs.declared.Fault.the-variants.{Clean, Found}
+use Rattle.rules.specs.declared.FileRead.{FileRead}
+use Rattle.rules.specs.declared.FileRead.the-variants.{Accepted, Refused}
+use Rattle.rules.specs.declared.Layout.{Layout}
+use Rattle.rules.specs.declared.Position.{Position}
+use Rattle.rules.specs.declared.PositionRead.{PositionRead}
+use Rattle.rules.specs.declared.PositionRead.the-variants.{Read, Unreadable}
+use Rattle.rules.specs.declared.PositionRow.{PositionRow}
+use Rattle.rules.specs.declared.Refusal.{Refusal}
+use Rattle.rules.specs.declared.Refusal.the-variants.{FileSize, Trailer, NoPositions, Distance, SeriesRange, SeriesType, PositionTerms, PositionRange, LimiterPrice, BarrierPrice, BarrierSide, ListTooShort, RowAskedFor}
+use Rattle.rules.specs.declared.SeriesRow.{SeriesRow}
+
+-- The table's column "Number".
+abbrev pub number : Refusal → ℕ
+number FileSize = 1
+number Trailer = 2
+number NoPositions = 3
+number Distance = 4
+number SeriesRange = 5
+number SeriesType = 6
+number PositionTerms = 7
+number PositionRange = 8
+number LimiterPrice = 9
+number BarrierPrice = 10
+number BarrierSide = 11
+number ListTooShort = 12
+number RowAskedFor = 13
+
+-- x is not from least to most.
+abbrev pub outside : ℕ → ℕ → ℕ → Bool
+outside least most x = ltb x least || ltb most x
+
+abbrev pub nonzero : ℕ → Bool
+nonzero x = not (eqb x 0)
+
+-- 1: "file below 12 or above 65,536 bytes"
+abbrev pub wrongSize : List ℕ → Bool
+wrongSize b = outside 12 65_536 (length b)
+
+-- 2: "s not 1 to 32, p above 256, or one of the last four bytes not zero"
+abbrev pub wrongTrailer : List ℕ → Bool
+wrongTrailer b = outside 1 32 (seriesCount b) || ltb 256 (positionCount b) || nonzero (trailerSpare b)
+
+-- 3: "p is 0"
+abbrev pub noPositions : List ℕ → Bool
+noPositions b = eqb (positionCount b) 0
+
+-- 4: "distance not as above, or longer than the file"
+abbrev pub wrongDistance : List ℕ → Bool
+wrongDistance b =
+    not (eqb (distance b) (span (seriesCount b) (positionCount b))) || ltb (length b) (distance b)
+
+-- 5: "PV, fa, fb, f3 or M outside its range": PV 1 to 10,000,000; fa 1,000,000 to 10,000,000; fb 0 to fa; f3 0 to
+-- 1,000,000; M 1 to 1,000.
+abbrev pub wrongSeriesRange : SeriesRow → Bool
+wrongSeriesRange r =
+    outside 1 10_000_000 (r .pv)
+    || outside 1_000_000 10_000_000 (r .fa)
+    || ltb (r .fa) (r .fb)
+    || ltb 1_000_000 (r .f3)
+    || outside 1 1_000 (r .m)
+
+-- 6: "type above 1 or a spare byte not zero"
+abbrev pub wrongSeriesType : SeriesRow → Bool
+wrongSeriesType r = ltb 1 (r .option) || nonzero (r .spare)
+
+-- "Flags: 1 already knocked in (kinds 1 and 2 only) .. other bits zero." The four flags together are 15.
+abbrev pub wrongFlags : PositionRow → Bool
+wrongFlags r = ltb 15 (r .flags) || (knockedInFlag (r .flags) && outside 1 2 (r .kind))
+
+-- 7: "series, side, kind, flags or a spare byte wrong": series below s; side 0 or 1; kind 0 to 4.
+abbrev pub wrongTerms : ℕ → PositionRow → Bool
+wrongTerms s r =
+    leb s (r .series)
+    || ltb 1 (r .side)
+    || ltb 4 (r .kind)
+    || wrongFlags r
+    || nonzero (r .spare)
+
+-- 8: "Q, PE, REB or premium wrong": Q 1 to 100,000; PE 1 to 10,000,000; REB 0 to 10,000,000; premium 0 to 10,000,000,
+-- "zero on a written row".
+abbrev pub wrongRange : PositionRow → Bool
+wrongRange r =
+    outside 1 100_000 (r .q)
+    || outside 1 10_000_000 (r .pe)
+    || ltb 10_000_000 (r .reb)
+    || ltb 10_000_000 (r .premium)
+    || (eqb (r .side) 1 && nonzero (r .premium))
+
+-- 9: "PB wrong". "Without the limiter flag PB is 0. With it, a call has PE < PB ≤ 10,000,000 and a put 0 ≤ PB < PE."
+-- The first number is the series' type.
+abbrev pub wrongLimiter : ℕ → PositionRow → Bool
+wrongLimiter option r =
+    (not (limiterFlag (r .flags)) && nonzero (r .pb))
+    || (limiterFlag (r .flags) && eqb option 0 && (leb (r .pb) (r .pe) || ltb 10_000_000 (r .pb)))
+    || (limiterFlag (r .flags) && not (eqb option 0) && leb (r .pe) (r .pb))
+
+-- 10: "barrier price outside its rule or range, or REB with kind 0". "Kind 0 has barrier price 0 and REB 0. Other
+-- kinds have a price of 1 to 10,000,000".
+abbrev pub wrongBarrierPrice : PositionRow → Bool
+wrongBarrierPrice r =
+    (eqb (r .kind) 0 && (nonzero (r .price) || nonzero (r .reb)))
+    || (nonzero (r .kind) && outside 1 10_000_000 (r .price))
+
+-- 11: "barrier on the wrong side of PV": "above PV for kinds 1 and 3, below PV for kinds 2 and 4, except where flag 1
+-- is set".
+abbrev pub wrongBarrierSide : ℕ → PositionRow → Bool
+wrongBarrierSide pv r =
+    not (knockedInFlag (r .flags))
+    && (((eqb (r .kind) 1 || eqb (r .kind) 3) && leb (r .price) pv)
+    || ((eqb (r .kind) 2 || eqb (r .kind) 4) && leb pv (r .price)))
+
+-- "Checked from top to bottom .. first fault wins": the refusal w where the test holds, else what comes after it.
+unfoldable pub refuse : Bool → Refusal → Fault → Fault
+refuse true w next = Found w
+refuse false w next = next
+
+unfoldable pub trailerFault : List ℕ → Fault
+trailerFault b =
+    refuse (wrongSize b) FileSize
+    (refuse (wrongTrailer b) Trailer
+    (refuse (noPositions b) NoPositions
+    (refuse (wrongDistance b) Distance Clean)))
+
+unfoldable pub seriesRowFault : SeriesRow → Fault
+seriesRowFault r = refuse (wrongSeriesRange r) SeriesRange (refuse (wrongSeriesType r) SeriesType Clean)
+
+-- The checks that look at the row's series, which refusal 7 has shown to be there.
+unfoldable pub matchedFault : SeriesRow → PositionRow → Fault
+matchedFault k r =
+    refuse (wrongRange r) PositionRange
+    (refuse (wrongLimiter (k .option) r) LimiterPrice
+    (refuse (wrongBarrierPrice r) BarrierPrice
+    (refuse (wrongBarrierSide (k .pv) r) BarrierSide Clean)))
+
+-- s is the number of series, k the row's series.
+unfoldable pub positionRowFault : ℕ → SeriesRow → PositionRow → Fault
+positionRowFault s k r = refuse (wrongTerms s r) PositionTerms (matchedFault k r)
+
+abbrev pub seriesFault : List ℕ → Layout → ℕ → Fault
+seriesFault b l i = seriesRowFault (seriesRow b l i)
+
+abbrev pub positionFault : List ℕ → Layout → ℕ → Fault
+positionFault b l i =
+    positionRowFault (l .series) (seriesRow b l (positionRow b l i .series)) (positionRow b l i)
+
+-- The position, or its refusal.
+abbrev pub readAs : Fault → Position → PositionRead
+readAs Clean p = Read p
+readAs (Found w) p = Unreadable w
+
+unfoldable pub positionRead : List ℕ → Layout → ℕ → PositionRead
+positionRead b l i = readAs (positionFault b l i) (positionOf (positionRow b l i))
+
+-- "A row that cannot be read ends the reading with its number": the fault at row i, or what comes after it.
+abbrev pub orElse : Fault → ℕ → FileRead → FileRead
+orElse Clean i next = next
+orElse (Found w) i next = Refused w i
+
+-- "each row whole before the next": rows 0 to n - 1 of a table, whose faults f gives, and then what comes after it.
+unfoldable pub rows : (ℕ → Fault) → ℕ → FileRead → FileRead
+rows f zero next = next
+rows f (suc n) next = rows f n (orElse (f n) n next)
+
+unfoldable pub positionRows : List ℕ → Layout → FileRead
+positionRows b l = rows (positionFault b l) (l .positions) (Accepted l)
+
+-- "series rows before position rows"
+unfoldable pub seriesRows : List ℕ → Layout → FileRead
+seriesRows b l = rows (seriesFault b l) (l .series) (positionRows b l)
+
+-- The reading of a file. "counted from 0 in its own table (0 for the trailer ..)"
+unfoldable pub fileRead : List ℕ → FileRead
+fileRead b = orElse (trailerFault b) 0 (seriesRows b (layout b))
+
+-- "The answer is the number and the row", or the account.
+pub data Meaning : Type 0 where
+  refused : (number row : ℕ) → Meaning
+  accepted : Account → Meaning
+
+abbrev pub meant : List ℕ → FileRead → Meaning
+meant b (Refused w row) = refused (number w) row
+meant b (Accepted l) = accepted (accountOf b l)
+
+-- The meaning of a file, from its bytes.
+unfoldable pub meaning : List ℕ → Meaning
+meaning b = meant b (fileRead b)

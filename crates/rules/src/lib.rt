@@ -1,0 +1,158 @@
+// The types of document 01. This crate has no functions: its specs/ are the definitions, its proofs/ the theorems
+// about them.
+
+// A series' type, call or put. (Document 01's "type".)
+pub enum OptionType {
+    Call,
+    Put,
+}
+
+// Whether the client holds the option or has written it.
+pub enum Side {
+    Held,
+    Written,
+}
+
+// A position's one barrier with its price in ticks.
+pub enum Barrier {
+    NoBarrier,
+    UpIn(u32),
+    DownIn(u32),
+    UpOut(u32),
+    DownOut(u32),
+}
+
+// A position's limiter, PB, in ticks.
+pub enum Limiter {
+    NoLimiter,
+    At(u32),
+}
+
+// A series row, number by number, as it stands in the file.
+pub struct SeriesRow {
+    pub pv: u32,
+    pub fa: u32,
+    pub fb: u32,
+    pub f3: u32,
+    pub m: u32,
+    pub option: u32,
+    pub spare: u32,
+}
+
+// A position row, number by number, as it stands in the file.
+pub struct PositionRow {
+    pub series: u32,
+    pub side: u32,
+    pub kind: u32,
+    pub flags: u32,
+    pub spare: u32,
+    pub q: u32,
+    pub pe: u32,
+    pub pb: u32,
+    pub price: u32,
+    pub reb: u32,
+    pub premium: u32,
+}
+
+// What a series row means.
+pub struct Series {
+    pub pv: u32,
+    pub fa: u32,
+    pub fb: u32,
+    pub f3: u32,
+    pub m: u32,
+    pub option: OptionType,
+}
+
+// What a position row means. The four flags stand in `knocked`, `limiter`, `european` and `old` (opened before the
+// annex).
+pub struct Position {
+    pub series: u32,
+    pub side: Side,
+    pub barrier: Barrier,
+    pub limiter: Limiter,
+    pub knocked: bool,
+    pub european: bool,
+    pub old: bool,
+    pub q: u32,
+    pub pe: u32,
+    pub reb: u32,
+    pub premium: u32,
+}
+
+// Where a file's tables stand: how many series and positions, and at which byte the first series row and the first
+// position row begin.
+pub struct Layout {
+    pub series: usize,
+    pub positions: usize,
+    pub start: usize,
+    pub middle: usize,
+}
+
+// Why a file or a call is turned back, in the order of document 01's table.
+pub enum Refusal {
+    FileSize,
+    Trailer,
+    NoPositions,
+    Distance,
+    SeriesRange,
+    SeriesType,
+    PositionTerms,
+    PositionRange,
+    LimiterPrice,
+    BarrierPrice,
+    BarrierSide,
+    ListTooShort,
+    RowAskedFor,
+}
+
+// What a row's checks find.
+pub enum Fault {
+    Clean,
+    Found(Refusal),
+}
+
+// A position row read: the position, or its refusal.
+pub enum PositionRead {
+    Read(Position),
+    Unreadable(Refusal),
+}
+
+// A file read: accepted, with where its rows stand, or refused with the row.
+pub enum FileRead {
+    Accepted(Layout),
+    Refused(Refusal, usize),
+}
+
+// One position's amount in centavos, or the refusal with its row.
+pub enum AmountAnswer {
+    Amount(u64),
+    NoAmount(Refusal, usize),
+}
+
+// The unit spread margin of a held and a written row: a number of fine units, or no pair.
+pub enum Spread {
+    Barred,
+    Margin(u64),
+}
+
+// The next pair to make: written row and held row, or none.
+pub enum Choice {
+    Pair(usize, usize),
+    NoPair,
+}
+
+// An entry of the caller's list: 1 for a pair or 2 for a row left, then that line's fields in document 01's order.
+pub struct Line {
+    pub kind: u64,
+    pub first: u64,
+    pub second: u64,
+    pub third: u64,
+    pub fourth: u64,
+}
+
+// A file's margin: how many lines and the total in centavos, or the refusal with its row.
+pub enum MarginAnswer {
+    Total(usize, u64),
+    NoTotal(Refusal, usize),
+}
