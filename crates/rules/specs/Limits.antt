@@ -1,10 +1,11 @@
 -- Document 01, The account file: its limits as plain ranges and sizes, with no reference to the reader's tests.
-use Prim.Native.Nat.{ℕ, _/_, _%_, _≤_, _<_}
+use Prim.Native.Nat.{ℕ, _+_, _*_, _/_, _%_, _≤_, _<_}
 use mathlib.Core.List.{List}
 use mathlib.Core.Logic.{_⊎_}
 use mathlib.Core.Path.{_≡_}
 use lib.ListN.{length}
 use Rattle.rules.specs.File.{distance, layout, positionCount, positionRow, seriesCount, seriesRow, span, trailerSpare}
+use Rattle.rules.specs.declared.Layout.{Layout}
 use Rattle.rules.specs.declared.PositionRow.{PositionRow}
 use Rattle.rules.specs.declared.SeriesRow.{SeriesRow}
 
@@ -55,9 +56,9 @@ pub record PositionWithin (s : ℕ) (k : SeriesRow) (r : PositionRow) : Type 0 w
   pub price-above : r .flags % 2 ≡ 0 → (r .kind ≡ 1) ⊎ (r .kind ≡ 3) → k .pv < r .price
   pub price-below : r .flags % 2 ≡ 0 → (r .kind ≡ 2) ⊎ (r .kind ≡ 4) → r .price < k .pv
 
--- The whole file.
-pub record FileWithin (b : List ℕ) : Type 0 where
-  -- "At most 65,536 bytes"; room for the trailer's 12
+-- The trailer.
+pub record TrailerWithin (b : List ℕ) : Type 0 where
+  -- "At most 65,536 bytes", and the trailer's own 12
   pub size-least : 12 ≤ length b
   pub size-most : length b ≤ 65_536
   -- "series count s, u16, 1 to 32; position count p, u16, 1 to 256"
@@ -69,5 +70,17 @@ pub record FileWithin (b : List ℕ) : Type 0 where
   pub distance-is : distance b ≡ span (seriesCount b) (positionCount b)
   pub distance-most : distance b ≤ length b
   pub spare-zero : trailerSpare b ≡ 0
+
+-- The whole file: a cover sheet of any bytes, then the rows and the trailer.
+pub record FileWithin (b : List ℕ) : Type 0 where
+  pub trailer : TrailerWithin b
   pub series-rows : (i : ℕ) → i < seriesCount b → SeriesWithin (seriesRow b (layout b) i)
   pub position-rows : (i : ℕ) → i < positionCount b → PositionWithin (seriesCount b) (seriesRow b (layout b) (positionRow b (layout b) i .series)) (positionRow b (layout b) i)
+
+-- The rows of a layout stand within the file, before its trailer. What every reader of a row requires.
+pub record Placed (b : List ℕ) (l : Layout) : Type 0 where
+  pub size-most : length b ≤ 65_536
+  pub series-most : l .series ≤ 32
+  pub positions-most : l .positions ≤ 256
+  pub middle-is : l .middle ≡ l .start + 24 * l .series
+  pub room : l .middle + 32 * l .positions + 12 ≤ length b

@@ -1,0 +1,123 @@
+-- The order of the checks, by computation: rows and files with two faults at once, of which the first wins, and one
+-- accepted file with a cover sheet.
+-- Assumes nothing.
+use Prim.Native.Nat.{ℕ, _+_, _*_, _/_, _%_}
+use mathlib.Core.List.{List, [], _∷_, _++_}
+use mathlib.Core.Path.{_≡_, refl}
+use Rattle.rules.specs.File.{layout, positionRow, seriesRow, span}
+use Rattle.rules.specs.Refusals.{fileRead, matchedFault, positionRowFault, positionRows, refuse, rows, seriesRowFault, seriesRows, trailerFault}
+use Rattle.rules.specs.declared.Fault.the-variants.{Clean, Found}
+use Rattle.rules.specs.declared.FileRead.the-variants.{Accepted, Refused}
+use Rattle.rules.specs.declared.PositionRow.{PositionRow}
+use Rattle.rules.specs.declared.Refusal.the-variants.{FileSize, Trailer, NoPositions, Distance, SeriesRange, SeriesType, PositionTerms, PositionRange, LimiterPrice, BarrierPrice, BarrierSide}
+use Rattle.rules.specs.declared.SeriesRow.{SeriesRow}
+
+-- A call series row with the PV, type and spare number given.
+abbrev seriesWith : ℕ → ℕ → ℕ → SeriesRow
+seriesWith pv option spare =
+    record { pv = pv; fa = 1_200_000; fb = 800_000; f3 = 50_000; m = 5; option = option; spare = spare }
+
+-- A written row of series 0: its kind, flags, Q, PB, barrier price and REB.
+abbrev rowWith : ℕ → ℕ → ℕ → ℕ → ℕ → ℕ → PositionRow
+rowWith kind flags q pb price reb =
+    record {
+      series = 0;
+      side = 1;
+      kind = kind;
+      flags = flags;
+      spare = 0;
+      q = q;
+      pe = 3100;
+      pb = pb;
+      price = price;
+      reb = reb;
+      premium = 0;
+    }
+
+abbrev call : SeriesRow
+call = seriesWith 3000 0 0
+
+-- Each row has the two faults named; the first is found.
+pub order :
+    -- 5 before 6
+    (seriesRowFault (seriesWith 0 2 0) ≡ Found SeriesRange)
+    × (seriesRowFault (seriesWith 3000 2 0) ≡ Found SeriesType)
+    -- 7 before 8: kind 5, Q 0
+    × (positionRowFault 1 call (rowWith 5 4 0 0 0 0) ≡ Found PositionTerms)
+    -- 7 before 10: flag 1 on kind 3, price 0
+    × (positionRowFault 1 call (rowWith 3 5 10 0 0 0) ≡ Found PositionTerms)
+    -- 8 before 9: Q 0, PB = PE
+    × (positionRowFault 1 call (rowWith 0 6 0 3100 0 0) ≡ Found PositionRange)
+    -- 8 before 10: REB 10,000,001 on kind 0
+    × (positionRowFault 1 call (rowWith 0 4 10 0 0 10_000_001) ≡ Found PositionRange)
+    -- 9 before 10: PB = PE, a price on kind 0
+    × (positionRowFault 1 call (rowWith 0 6 10 3100 7 0) ≡ Found LimiterPrice)
+    -- 9 before 11: PB without its flag, barrier = PV
+    × (positionRowFault 1 call (rowWith 1 4 10 3300 3000 0) ≡ Found LimiterPrice)
+    -- 10 before 11: price 0 of an up barrier
+    × (positionRowFault 1 call (rowWith 1 4 10 0 0 0) ≡ Found BarrierPrice)
+    -- 10 stays under flag 1
+    × (positionRowFault 1 call (rowWith 1 5 10 0 10_000_001 0) ≡ Found BarrierPrice)
+    -- 11: barrier = PV; under flag 1 it is free
+    × (positionRowFault 1 call (rowWith 1 4 10 0 3000 0) ≡ Found BarrierSide)
+    × (positionRowFault 1 call (rowWith 1 5 10 0 3000 0) ≡ Clean)
+unfolding seriesRowFault positionRowFault matchedFault refuse
+order = (refl, refl, refl, refl, refl, refl, refl, refl, refl, refl, refl, refl)
+
+-- Little-endian bytes.
+abbrev bytes2 : ℕ → List ℕ
+bytes2 n = n % 256 ∷ n / 256 % 256 ∷ []
+
+abbrev bytes4 : ℕ → List ℕ
+bytes4 n = n % 256 ∷ n / 256 % 256 ∷ n / 65_536 % 256 ∷ n / 16_777_216 % 256 ∷ []
+
+-- A call series row of the PV given.
+abbrev seriesBytes : ℕ → List ℕ
+seriesBytes pv =
+    bytes4 pv
+    ++ bytes4 1_200_000
+    ++ bytes4 800_000
+    ++ bytes4 50_000
+    ++ bytes4 5
+    ++ (0 ∷ 0 ∷ 0 ∷ 0 ∷ [])
+
+-- A European written row of the kind, contracts and barrier price given.
+abbrev positionBytes : ℕ → ℕ → ℕ → List ℕ
+positionBytes kind q price =
+    (0 ∷ 0 ∷ 1 ∷ kind ∷ 4 ∷ 0 ∷ 0 ∷ 0 ∷ [])
+    ++ bytes4 q
+    ++ bytes4 3100
+    ++ bytes4 0
+    ++ bytes4 price
+    ++ bytes4 0
+    ++ bytes4 0
+
+-- s, p, distance and the last four bytes.
+abbrev trailerBytes : ℕ → ℕ → ℕ → ℕ → List ℕ
+trailerBytes s p d spare = bytes2 s ++ bytes2 p ++ bytes4 d ++ bytes4 spare
+
+-- Two series rows by PV, and two position rows.
+abbrev file : ℕ → ℕ → List ℕ → List ℕ
+file pv pv₂ positions = seriesBytes pv ++ seriesBytes pv₂ ++ positions ++ trailerBytes 2 2 (span 2 2) 0
+
+pub file-order :
+    -- 1 before 2: 11 zero bytes
+    (fileRead (0 ∷ 0 ∷ 0 ∷ 0 ∷ 0 ∷ 0 ∷ 0 ∷ 0 ∷ 0 ∷ 0 ∷ 0 ∷ []) ≡ Refused FileSize 0)
+    -- 2 before 3: s and p both 0; p 0 and a spare byte
+    × (fileRead (trailerBytes 0 0 12 0) ≡ Refused Trailer 0)
+    × (fileRead (trailerBytes 1 0 36 16_777_216) ≡ Refused Trailer 0)
+    -- 3 before 4: p 0 and a distance longer than the file
+    × (fileRead (trailerBytes 1 0 36 0) ≡ Refused NoPositions 0)
+    -- 4: the right distance, longer than the file; a wrong one
+    × (fileRead (trailerBytes 1 1 68 0) ≡ Refused Distance 0)
+    × (fileRead (trailerBytes 1 1 12 0) ≡ Refused Distance 0)
+    -- A later series row before an earlier position row: 5 in series row 1, 8 in position row 0
+    × (fileRead (file 3000 0 (positionBytes 0 0 0 ++ positionBytes 0 1 0)) ≡ Refused SeriesRange 1)
+    -- An earlier row before a later one: 11 in position row 0, 7 in row 1
+    × (fileRead (file 3000 3000 (positionBytes 1 1 3000 ++ positionBytes 5 1 0)) ≡ Refused BarrierSide 0)
+    -- The last row alone
+    × (fileRead (file 3000 3000 (positionBytes 1 1 3001 ++ positionBytes 2 0 2999)) ≡ Refused PositionRange 1)
+    -- Accepted, after a cover sheet of three bytes that is not read
+    × (fileRead (255 ∷ 1 ∷ 2 ∷ file 3000 3000 (positionBytes 1 1 3001 ++ positionBytes 2 1 2999)) ≡ Accepted (record { series = 2; positions = 2; start = 3; middle = 51 }))
+unfolding fileRead layout seriesRow positionRow seriesRows positionRows rows trailerFault seriesRowFault positionRowFault matchedFault refuse
+file-order = (refl, refl, refl, refl, refl, refl, refl, refl, refl, refl)
