@@ -1,0 +1,80 @@
+// The checks of the trailer and of a row, in document 01's order: the first fault, or none.
+use crate::rows::{distance_back, position_count, series_count, trailer_spare};
+use crate::tests::{
+    wrong_barrier_price, wrong_barrier_side, wrong_limiter, wrong_range, wrong_series_range,
+    wrong_series_type, wrong_terms,
+};
+use rules::{Fault, PositionRow, Refusal, SeriesRow};
+ghost use mathlib.Core.Path.{_≡_};
+ghost use Prim.Native.Nat.{_≤_};
+ghost use lib.ListN.{length};
+ghost use Rattle.rules.specs.Refusals.{matchedFault, seriesRowFault, trailerFault, wrongDistance, wrongTrailer};
+
+fn wrong_trailer(file: &[u8]) -> bool
+    requires { ⌜ 12 ≤ length (now file) ⌝ }
+    ensures { λ t. ⌜ t ≡ wrongTrailer (now (file .entry)) ⌝ }
+{
+    let s = series_count(file);
+    let p = position_count(file);
+    let spare = trailer_spare(file);
+    ((s < 1) | (32 < s)) | (256 < p) | !(spare == 0)
+}
+
+fn wrong_distance(file: &[u8]) -> bool
+    requires { ⌜ 12 ≤ length (now file) ⌝ }
+    ensures { λ t. ⌜ t ≡ wrongDistance (now (file .entry)) ⌝ }
+{
+    let s = series_count(file);
+    let p = position_count(file);
+    let distance = distance_back(file);
+    !(distance == 12 + 24 * s + 32 * p) | (file.len() < (distance as usize))
+}
+
+pub fn trailer_fault(file: &[u8]) -> Fault
+    ensures { λ r. ⌜ r ≡ trailerFault (now (file .entry)) ⌝ }
+{
+    let n = file.len();
+    if (n < 12) | (65_536 < n) {
+        return Fault::Found(Refusal::FileSize);
+    }
+    if wrong_trailer(file) {
+        return Fault::Found(Refusal::Trailer);
+    }
+    if position_count(file) == 0 {
+        return Fault::Found(Refusal::NoPositions);
+    }
+    if wrong_distance(file) {
+        return Fault::Found(Refusal::Distance);
+    }
+    Fault::Clean
+}
+
+pub fn series_row_fault(r: SeriesRow) -> Fault
+    ensures { λ f. ⌜ f ≡ seriesRowFault r ⌝ }
+{
+    if wrong_series_range(r) {
+        return Fault::Found(Refusal::SeriesRange);
+    }
+    if wrong_series_type(r) {
+        return Fault::Found(Refusal::SeriesType);
+    }
+    Fault::Clean
+}
+
+pub fn matched_fault(k: SeriesRow, r: PositionRow) -> Fault
+    ensures { λ f. ⌜ f ≡ matchedFault k r ⌝ }
+{
+    if wrong_range(r) {
+        return Fault::Found(Refusal::PositionRange);
+    }
+    if wrong_limiter(k.option, r) {
+        return Fault::Found(Refusal::LimiterPrice);
+    }
+    if wrong_barrier_price(r) {
+        return Fault::Found(Refusal::BarrierPrice);
+    }
+    if wrong_barrier_side(k.pv, r) {
+        return Fault::Found(Refusal::BarrierSide);
+    }
+    Fault::Clean
+}

@@ -1,0 +1,7 @@
+// The account file: bytes to rows, or the refusal that document 01 gives.
+pub mod bytes;
+pub mod faults;
+pub mod reader;
+pub mod rows;
+pub mod tests;
+pub mod values;

@@ -1,0 +1,64 @@
+// The tests of a row, each the Bool that its definition is: no branch, so that code and definition are read side by
+// side.
+use rules::{PositionRow, SeriesRow};
+ghost use mathlib.Core.Path.{_≡_};
+ghost use Rattle.rules.specs.Refusals.{wrongBarrierPrice, wrongBarrierSide, wrongFlags, wrongLimiter, wrongRange, wrongSeriesRange, wrongSeriesType, wrongTerms};
+
+pub fn wrong_series_range(r: SeriesRow) -> bool
+    ensures { λ t. ⌜ t ≡ wrongSeriesRange r ⌝ }
+{
+    ((r.pv < 1) | (10_000_000 < r.pv))
+        | ((r.fa < 1_000_000) | (10_000_000 < r.fa))
+        | (r.fa < r.fb)
+        | (1_000_000 < r.f3)
+        | ((r.m < 1) | (1_000 < r.m))
+}
+
+pub fn wrong_series_type(r: SeriesRow) -> bool
+    ensures { λ t. ⌜ t ≡ wrongSeriesType r ⌝ }
+{
+    (1 < r.option) | !(r.spare == 0)
+}
+
+pub fn wrong_terms(s: usize, r: PositionRow) -> bool
+    ensures { λ t. ⌜ t ≡ wrongTerms s r ⌝ }
+{
+    (s <= (r.series as usize))
+        | (1 < r.side)
+        | (4 < r.kind)
+        | ((15 < r.flags) | ((r.flags % 2 == 1) & ((r.kind < 1) | (2 < r.kind))))
+        | !(r.spare == 0)
+}
+
+pub fn wrong_range(r: PositionRow) -> bool
+    ensures { λ t. ⌜ t ≡ wrongRange r ⌝ }
+{
+    ((r.q < 1) | (100_000 < r.q))
+        | ((r.pe < 1) | (10_000_000 < r.pe))
+        | (10_000_000 < r.reb)
+        | (10_000_000 < r.premium)
+        | ((r.side == 1) & !(r.premium == 0))
+}
+
+pub fn wrong_limiter(option: u32, r: PositionRow) -> bool
+    ensures { λ t. ⌜ t ≡ wrongLimiter option r ⌝ }
+{
+    (!(r.flags / 2 % 2 == 1) & !(r.pb == 0))
+        | ((r.flags / 2 % 2 == 1) & (option == 0) & ((r.pb <= r.pe) | (10_000_000 < r.pb)))
+        | ((r.flags / 2 % 2 == 1) & !(option == 0) & (r.pe <= r.pb))
+}
+
+pub fn wrong_barrier_price(r: PositionRow) -> bool
+    ensures { λ t. ⌜ t ≡ wrongBarrierPrice r ⌝ }
+{
+    ((r.kind == 0) & (!(r.price == 0) | !(r.reb == 0)))
+        | (!(r.kind == 0) & ((r.price < 1) | (10_000_000 < r.price)))
+}
+
+pub fn wrong_barrier_side(pv: u32, r: PositionRow) -> bool
+    ensures { λ t. ⌜ t ≡ wrongBarrierSide pv r ⌝ }
+{
+    !(r.flags % 2 == 1)
+        & ((((r.kind == 1) | (r.kind == 3)) & (r.price <= pv))
+            | (((r.kind == 2) | (r.kind == 4)) & (pv <= r.price)))
+}

@@ -1,0 +1,98 @@
+// What a row means.
+use rules::{
+    Barrier, Limiter, OptionType, Position, PositionRow, Refusal, Series, SeriesRow, Side,
+};
+ghost use mathlib.Core.Path.{_≡_};
+ghost use Rattle.rules.specs.File.{barrierOf, limiterOf, optionOf, positionOf, seriesOf, sideOf};
+ghost use Rattle.rules.specs.Refusals.{number};
+
+pub fn option_of(n: u32) -> OptionType
+    ensures { λ r. ⌜ r ≡ optionOf n ⌝ }
+{
+    match n {
+        0 => OptionType::Call,
+        _ => OptionType::Put,
+    }
+}
+
+pub fn side_of(n: u32) -> Side
+    ensures { λ r. ⌜ r ≡ sideOf n ⌝ }
+{
+    match n {
+        0 => Side::Held,
+        _ => Side::Written,
+    }
+}
+
+pub fn barrier_of(kind: u32, price: u32) -> Barrier
+    ensures { λ r. ⌜ r ≡ barrierOf kind price ⌝ }
+{
+    match kind {
+        1 => Barrier::UpIn(price),
+        2 => Barrier::DownIn(price),
+        3 => Barrier::UpOut(price),
+        4 => Barrier::DownOut(price),
+        _ => Barrier::NoBarrier,
+    }
+}
+
+pub fn limiter_of(flags: u32, pb: u32) -> Limiter
+    ensures { λ r. ⌜ r ≡ limiterOf flags pb ⌝ }
+{
+    match flags / 2 % 2 {
+        1 => Limiter::At(pb),
+        _ => Limiter::NoLimiter,
+    }
+}
+
+pub fn series_of(r: SeriesRow) -> Series
+    ensures { λ s. ⌜ s ≡ seriesOf r ⌝ }
+{
+    Series {
+        pv: r.pv,
+        fa: r.fa,
+        fb: r.fb,
+        f3: r.f3,
+        m: r.m,
+        option: option_of(r.option),
+    }
+}
+
+pub fn position_of(r: PositionRow) -> Position
+    ensures { λ p. ⌜ p ≡ positionOf r ⌝ }
+{
+    Position {
+        series: r.series,
+        side: side_of(r.side),
+        barrier: barrier_of(r.kind, r.price),
+        limiter: limiter_of(r.flags, r.pb),
+        knocked: r.flags % 2 == 1,
+        european: r.flags / 4 % 2 == 1,
+        old: r.flags / 8 % 2 == 1,
+        q: r.q,
+        pe: r.pe,
+        reb: r.reb,
+        premium: r.premium,
+    }
+}
+
+// Document 01's number of a refusal.
+pub fn refusal_number(why: Refusal) -> u32
+    ensures { λ n. ⌜ n ≡ number why ⌝ }
+{
+    match why {
+        Refusal::FileSize => 1,
+        Refusal::Trailer => 2,
+        Refusal::NoPositions => 3,
+        Refusal::Distance => 4,
+        Refusal::SeriesRange => 5,
+        Refusal::SeriesType => 6,
+        Refusal::PositionTerms => 7,
+        Refusal::PositionRange => 8,
+        Refusal::LimiterPrice => 9,
+        Refusal::BarrierPrice => 10,
+        Refusal::BarrierSide => 11,
+        Refusal::ListTooShort => 12,
+        Refusal::RowAskedFor => 13,
+    }
+}
