@@ -29,6 +29,8 @@ pub fn u32_at(file: &[u8], i: usize) -> u32
     requires { ⌜ i + 3 < length (now file) ⌝ }
     ensures { λ r. ⌜ r ≡ u32At (now (file .entry)) i ⌝ }
 {
-    u8_at(file, i) + 256 * u8_at(file, i + 1) + 65_536 * u8_at(file, i + 2)
+    u8_at(file, i)
+        + 256 * u8_at(file, i + 1)
+        + 65_536 * u8_at(file, i + 2)
         + 16_777_216 * u8_at(file, i + 3)
 }

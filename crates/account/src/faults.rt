@@ -1,10 +1,19 @@
 // The checks of the trailer and of a row, in document 01's order: the first fault, or none.
-use crate::rows::{distance_back, position_count, series_count, trailer_spare};
-use crate::tests::{
-    wrong_barrier_price, wrong_barrier_side, wrong_limiter, wrong_range, wrong_series_range,
-    wrong_series_type, wrong_terms,
-};
-use rules::{Fault, PositionRow, Refusal, SeriesRow};
+use crate::rows::distance_back;
+use crate::rows::position_count;
+use crate::rows::series_count;
+use crate::rows::trailer_spare;
+use crate::tests::wrong_barrier_price;
+use crate::tests::wrong_barrier_side;
+use crate::tests::wrong_limiter;
+use crate::tests::wrong_range;
+use crate::tests::wrong_series_range;
+use crate::tests::wrong_series_type;
+use crate::tests::wrong_terms;
+use rules::Fault;
+use rules::PositionRow;
+use rules::Refusal;
+use rules::SeriesRow;
 ghost use mathlib.Core.Path.{_≡_};
 ghost use Prim.Native.Nat.{_≤_};
 ghost use lib.ListN.{length};

@@ -1,9 +1,17 @@
 // The reading of a file: accepted with where its rows stand, or refused with the row.
-use crate::faults::{matched_fault, series_row_fault, trailer_fault};
-use crate::rows::{layout_of, position_row, series_row};
+use crate::faults::matched_fault;
+use crate::faults::series_row_fault;
+use crate::faults::trailer_fault;
+use crate::rows::layout_of;
+use crate::rows::position_row;
+use crate::rows::series_row;
 use crate::tests::wrong_terms;
 use crate::values::position_of;
-use rules::{Fault, FileRead, Layout, PositionRead, Refusal};
+use rules::Fault;
+use rules::FileRead;
+use rules::Layout;
+use rules::PositionRead;
+use rules::Refusal;
 ghost use mathlib.Core.Path.{_≡_};
 ghost use Prim.Native.Nat.{_<_};
 ghost use Rattle.rules.specs.Limits.{Placed};

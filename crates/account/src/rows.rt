@@ -1,6 +1,11 @@
 // Where a file's rows stand, and a row's numbers as they stand there.
-use crate::bytes::{u16_at, u24_at, u32_at, u8_at};
-use rules::{Layout, PositionRow, SeriesRow};
+use crate::bytes::u8_at;
+use crate::bytes::u16_at;
+use crate::bytes::u24_at;
+use crate::bytes::u32_at;
+use rules::Layout;
+use rules::PositionRow;
+use rules::SeriesRow;
 ghost use Prim.Native.Nat.{_+_, _*_, _≤_, _<_};
 ghost use lib.ListN.{length};
 ghost use mathlib.Core.Path.{_≡_};

@@ -1,6 +1,7 @@
 // The tests of a row, each the Bool that its definition is: no branch, so that code and definition are read side by
 // side.
-use rules::{PositionRow, SeriesRow};
+use rules::PositionRow;
+use rules::SeriesRow;
 ghost use mathlib.Core.Path.{_≡_};
 ghost use Rattle.rules.specs.Refusals.{wrongBarrierPrice, wrongBarrierSide, wrongFlags, wrongLimiter, wrongRange, wrongSeriesRange, wrongSeriesType, wrongTerms};
 

@@ -1,7 +1,13 @@
 // What a row means.
-use rules::{
-    Barrier, Limiter, OptionType, Position, PositionRow, Refusal, Series, SeriesRow, Side,
-};
+use rules::Barrier;
+use rules::Limiter;
+use rules::OptionType;
+use rules::Position;
+use rules::PositionRow;
+use rules::Refusal;
+use rules::Series;
+use rules::SeriesRow;
+use rules::Side;
 ghost use mathlib.Core.Path.{_≡_};
 ghost use Rattle.rules.specs.File.{barrierOf, limiterOf, optionOf, positionOf, seriesOf, sideOf};
 ghost use Rattle.rules.specs.Refusals.{number};

@@ -2,7 +2,9 @@
 use account::reader::read_file;
 use account::values::refusal_number;
 use libc::STDOUT_FILENO;
-use rules::{FileRead, Layout, Refusal};
+use rules::FileRead;
+use rules::Layout;
+use rules::Refusal;
 ghost use mathlib.Core.Path.{_≡_};
 ghost use Rattle.rules.specs.Refusals.{fileRead};
 

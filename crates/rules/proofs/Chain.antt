@@ -5,6 +5,7 @@ use mathlib.Core.Bool.{Bool, true, false, not, _&&_, _||_, true≢false}
 use mathlib.Core.Path.{_≡_, refl, sym, _∙_, ap}
 use borrow.Author.Tests.{eq-eqb, eqb-true, le-ltb, ltb-false, not-false}
 use lib.Dec.{eqb, ltb}
+use Rattle.rules.proofs.Tests.{neither}
 use Rattle.rules.specs.Refusals.{nonzero, outside, refuse}
 use Rattle.rules.specs.declared.Fault.{Fault}
 use Rattle.rules.specs.declared.Fault.the-variants.{Clean, Found}
@@ -33,10 +34,6 @@ clean true w f h e = absurd (true≢false h)
 clean false w f h e = e
 
 -- Facts from tests that fail.
-pub neither : (s t : Bool) → (s || t) ≡ false → (s ≡ false) × (t ≡ false)
-neither true t e = absurd (true≢false e)
-neither false t e = (refl, e)
-
 pub not-both : (s t : Bool) → (s && t) ≡ false → s ≡ true → t ≡ false
 not-both true t e h = e
 not-both false t e h = absurd (true≢false (sym h))

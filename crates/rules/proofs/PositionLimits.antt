@@ -15,7 +15,8 @@ use Rattle.rules.specs.declared.Fault.the-variants.{Clean, Found}
 use Rattle.rules.specs.declared.PositionRow.{PositionRow}
 use Rattle.rules.specs.declared.Refusal.the-variants.{PositionTerms, PositionRange, LimiterPrice, BarrierPrice, BarrierSide}
 use Rattle.rules.specs.declared.SeriesRow.{SeriesRow}
-use Rattle.rules.proofs.Chain.{both-fail, both-hold, clean, five-fail, in-range, inside, is-zero, neither, none-of-five, none-of-three, not-both, one-fails, passed, three-fail, two-held, zero-is}
+use Rattle.rules.proofs.Chain.{both-fail, both-hold, clean, five-fail, in-range, inside, is-zero, none-of-five, none-of-three, not-both, one-fails, passed, three-fail, two-held, zero-is}
+use Rattle.rules.proofs.Tests.{neither}
 
 -- A bit that is 0 is not 1, and one that is not 1 is 0.
 bit-clear : (n : ℕ) → n ≡ 0 → eqb n 1 ≡ false

@@ -1,0 +1,67 @@
+-- What the limits of a position row say of its barrier once flag 1 is applied.
+-- Assumes nothing.
+use Prim.Native.Nat.{ℕ, _%_, _≤_, _<_}
+use mathlib.Core.Bool.{Bool, true, false, cond}
+use mathlib.Core.Logic.{inl, inr}
+use mathlib.Core.Path.{_≡_, refl, ap, _∙_}
+use borrow.Author.Tests.{eqb-false, eqb-true}
+use lib.Dec.{eqb}
+use native.Mathlib.Omega.{arith}
+use Rattle.rules.proofs.Tests.{cond-case}
+use Rattle.rules.specs.File.{barrierOf, knockedInFlag, positionOf, seriesOf}
+use Rattle.rules.specs.Limits.{PositionWithin}
+use Rattle.rules.specs.OnePosition.{knockedIn, normal}
+use Rattle.rules.specs.Spreads.{kindOf}
+use Rattle.rules.specs.declared.Barrier.{Barrier}
+use Rattle.rules.specs.declared.Barrier.the-variants.{NoBarrier, UpIn, DownIn, UpOut, DownOut}
+use Rattle.rules.specs.declared.PositionRow.{PositionRow}
+use Rattle.rules.specs.declared.SeriesRow.{SeriesRow}
+
+-- The barrier stands on its side of PV: an up barrier above it, a down barrier below it.
+abbrev pub Beside : ℕ → Barrier → Type 0
+Beside pv NoBarrier = Unit {0}
+Beside pv (UpIn price) = pv < price
+Beside pv (DownIn price) = price < pv
+Beside pv (UpOut price) = pv < price
+Beside pv (DownOut price) = price < pv
+
+-- P holds of a row's barrier if it holds of each kind where that is the row's.
+by-kind :
+    (P : Barrier → Type 0) (kind price : ℕ) → kind ≤ 4
+    → (kind ≡ 0 → P NoBarrier) → (kind ≡ 1 → P (UpIn price)) → (kind ≡ 2 → P (DownIn price))
+    → (kind ≡ 3 → P (UpOut price)) → (kind ≡ 4 → P (DownOut price)) → P (barrierOf kind price)
+by-kind P kind price most none ui di uo do' =
+    test 1 ui (λ a. test 2 di (λ b. test 3 uo (λ c. test 4 do' (λ d. none (omega arith)))))
+  where
+    test : (n : ℕ) {x y : Barrier} → (kind ≡ n → P x) → ((kind ≡ n → ⊥) → P y) → P (cond (eqb kind n) x y)
+    test n {x} {y} f g =
+        cond-case P (eqb kind n) x y (λ t. f (eqb-true kind n t)) (λ t. g (eqb-false kind n t))
+
+-- A row within its limits, and its series row k.
+module _ {n : ℕ} {k : SeriesRow} {r : PositionRow} (w : PositionWithin n k r) where
+  -- "above PV for kinds 1 and 3, below PV for kinds 2 and 4, except where flag 1 is set"
+  pub beside : Beside (seriesOf k .pv) (normal (positionOf r) .barrier)
+  beside = by-flag (knockedInFlag (r .flags)) refl
+    where
+      by-flag : (t : Bool) → knockedInFlag (r .flags) ≡ t → Beside (k .pv) (knockedIn t (positionOf r) .barrier)
+      by-flag true e = tt
+      by-flag false e =
+          let clear : r .flags % 2 ≡ 0 = omega (arith, eqb-false (r .flags % 2) 1 e) in
+          by-kind (Beside (k .pv)) (r .kind) (r .price) (w .kind-most) (λ q. tt)
+          (λ q. w .price-above clear (inl q))
+          (λ q. w .price-below clear (inl q))
+          (λ q. w .price-above clear (inr q))
+          (λ q. w .price-below clear (inr q))
+
+  kind-of : r .kind ≡ kindOf (barrierOf (r .kind) (r .price))
+  kind-of =
+      by-kind (λ bar. r .kind ≡ kindOf bar) (r .kind) (r .price) (w .kind-most)
+      (λ q. q) (λ q. q) (λ q. q) (λ q. q) (λ q. q)
+
+  -- "Kind 0 has .. REB 0"; "Flag 1 makes the position one without barrier and with REB 0."
+  pub rebate-none : normal (positionOf r) .barrier ≡ NoBarrier → normal (positionOf r) .reb ≡ 0
+  rebate-none = by-flag (knockedInFlag (r .flags))
+    where
+      by-flag : (t : Bool) → knockedIn t (positionOf r) .barrier ≡ NoBarrier → knockedIn t (positionOf r) .reb ≡ 0
+      by-flag true e = refl
+      by-flag false e = w .reb-none (kind-of ∙ ap kindOf e)
