@@ -5,7 +5,7 @@ use mathlib.Core.Bool.{Bool, true, false, not, _&&_, _||_, true≢false}
 use mathlib.Core.Path.{_≡_, refl, sym, _∙_, ap}
 use borrow.Author.Tests.{eq-eqb, eqb-true, le-ltb, ltb-false, not-false}
 use lib.Dec.{eqb, ltb}
-use Rattle.rules.proofs.Tests.{neither}
+use Rattle.rules.proofs.Tests.{both-fail, neither}
 use Rattle.rules.specs.Refusals.{nonzero, outside, refuse}
 use Rattle.rules.specs.declared.Fault.{Fault}
 use Rattle.rules.specs.declared.Fault.the-variants.{Clean, Found}
@@ -34,10 +34,6 @@ clean true w f h e = absurd (true≢false h)
 clean false w f h e = e
 
 -- Facts from tests that fail.
-pub not-both : (s t : Bool) → (s && t) ≡ false → s ≡ true → t ≡ false
-not-both true t e h = e
-not-both false t e h = absurd (true≢false (sym h))
-
 pub inside : (least most x : ℕ) → outside least most x ≡ false → (least ≤ x) × (x ≤ most)
 inside least most x e =
     let h = neither (ltb x least) (ltb most x) e in
@@ -46,24 +42,7 @@ inside least most x e =
 pub is-zero : (x : ℕ) → nonzero x ≡ false → x ≡ 0
 is-zero x e = eqb-true x 0 (not-false (eqb x 0) e)
 
--- Tests that fail from facts.
-pub both-fail : (s t : Bool) → s ≡ false → t ≡ false → (s || t) ≡ false
-both-fail true t h k = absurd (true≢false h)
-both-fail false t h k = k
-
-pub one-fails : (s t : Bool) → (s ≡ true → t ≡ false) → (s && t) ≡ false
-one-fails true t h = h refl
-one-fails false t h = refl
-
-pub both-hold : (s t : Bool) → s ≡ true → t ≡ true → (s && t) ≡ true
-both-hold true t h k = k
-both-hold false t h k = absurd (true≢false (sym h))
-
-pub two-held : (s t : Bool) → (s && t) ≡ true → (s ≡ true) × (t ≡ true)
-two-held true t e = (refl, e)
-two-held false t e = absurd (true≢false (sym e))
-
--- The same of three and of five tests.
+-- Of three and of five tests, none holds.
 pub none-of-three : (a b c : Bool) → (a || b || c) ≡ false → (a ≡ false) × (b ≡ false) × (c ≡ false)
 none-of-three true b c e = absurd (true≢false e)
 none-of-three false b c e = let h = neither b c e in (refl, h .0, h .1)

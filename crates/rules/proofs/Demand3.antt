@@ -1,30 +1,79 @@
--- Demand 3 of document 01, over the bytes of every file.
+-- Demand 3 of document 01, over the bytes of every file: four theorems, each after the bullet of document 01 ("Demand 3
+-- means this, for every accepted file") that it states. The statements are in specs/Promises.antt.
 -- Assumes nothing.
-use Prim.Native.Nat.{ℕ, _<_}
+use Prim.Native.Nat.{ℕ, _+_, _≤_}
 use mathlib.Core.List.{List}
-use mathlib.Core.Path.{_≡_, sym, subst}
+use mathlib.Core.Path.{_≡_, ap, sym, subst}
+use Rattle.rules.proofs.AccountCover as AccountCover
+use Rattle.rules.proofs.Cover.{covers}
 use Rattle.rules.proofs.Least.{least-for}
+use Rattle.rules.proofs.MayPair.{may-pairable}
+use Rattle.rules.proofs.PairCover.{pair-covers}
+use Rattle.rules.proofs.PairPromises as PairPromises
 use Rattle.rules.proofs.Reading.{accepted-within}
 use Rattle.rules.proofs.RowFacts.{beside, rebate-none}
-use Rattle.rules.specs.File.{Account, accountOf, layout, positionOf, positionRow, seriesOf, seriesRow}
+use Rattle.rules.specs.File.{Account, accountOf, layout, positionOf, positionRow, seriesOf, seriesOfRow, seriesRow}
 use Rattle.rules.specs.Limits.{FileWithin}
-use Rattle.rules.specs.Promises.{Least, LeastDemand, LowFactors}
+use Rattle.rules.specs.Paths.{payment}
+use Rattle.rules.specs.Promises.{ContractsDemand, Cover, CoverDemand, Least, LeastDemand, LowFactors, UnmadeDemand}
 
--- "The least amount, where every fb is at most 1,000,000: an amount per unit, in whole fine units, covers a position
--- if it is at least the position's payment on every path of its series. The unit margin of each written row covers it.
+-- Row by row, of a file within its limits.
+module _ (b : List ℕ) (h : FileWithin b) (factors : LowFactors (accountOf b (layout b))) where
+  least-within : Least (accountOf b (layout b))
+  unfolding layout
+  least-within r there written =
+      let row = positionRow b (layout b) r in
+      let within = h .position-rows r there in
+      let k = seriesRow b (layout b) (row .series) in
+      least-for (seriesOf k) (positionOf row)
+      (h .series-rows (row .series) (within .series-below) .fa-least)
+      (factors (row .series) (within .series-below))
+      (beside within)
+      (rebate-none within)
+
+  cover-within : Cover (accountOf b (layout b))
+  unfolding layout
+  cover-within =
+      AccountCover.cover (accountOf b (layout b))
+      (λ path each r there written.
+      let row = positionRow b (layout b) r in
+      let below = h .position-rows r there .series-below in
+      covers (seriesOf (seriesRow b (layout b) (row .series))) (positionOf row)
+      (h .series-rows (row .series) below .fa-least)
+      (factors (row .series) below)
+      (path (row .series))
+      (each (row .series) below))
+      (λ path each w g there held may u e.
+      let a : Account = accountOf b (layout b) in
+      let i = a .positionAt w .series in
+      let below = h .position-rows w there .series-below in
+      let one = may-pairable a w g may .one-series in
+      subst (λ (j : ℕ). payment (seriesOfRow a w) (a .positionAt w) (path i) ≤ u + payment (a .seriesAt j) (a .positionAt g) (path j)) one
+      (pair-covers (seriesOfRow a w) (a .positionAt g) (a .positionAt w) u e (path i) (each i below)))
+
+-- "The cover, where every fb is at most 1,000,000: for every choice of one path for each series, total × 1,000,000 plus
+-- what the pairs bring in is at least what the written rows pay out. All rows of a series follow its path. A written row
+-- pays out its payment × M × Q. A pair brings in its held row's payment × M × the pair's quantity. Both are summed over
+-- the whole account; held contracts outside the pairs bring in nothing."
+pub cover : (b : List ℕ) → CoverDemand b
+cover b a e factors =
+    let known = accepted-within b a e in
+    subst Cover (sym (known .1)) (cover-within b (known .0) (subst LowFactors (known .1) factors))
+
+-- "Contracts: for every row, the quantities of the pair lines that name it and the quantity of its left line (0 if it
+-- has none) add up to Q."
+pub contracts : (b : List ℕ) → ContractsDemand b
+contracts b a e = PairPromises.contracts a
+
+-- "Pairs left unmade: after all pair lines, with the contracts left in a row being Q less the quantities of the pair
+-- lines that name it, no pair is allowed. A pair lowers the margin where the written unit margin is greater than the
+-- spread's."
+pub unmade : (b : List ℕ) → UnmadeDemand b
+unmade b a e = PairPromises.unmade a
+
+-- "The least amount, where every fb is at most 1,000,000: an amount per unit, in whole fine units, covers a position if
+-- it is at least the position's payment on every path of its series. The unit margin of each written row covers it.
 -- Every other amount that covers it and is at least MM is, with one fine unit added, at least that unit margin."
-least-within : (b : List ℕ) → FileWithin b → LowFactors (accountOf b (layout b)) → Least (accountOf b (layout b))
-unfolding layout
-least-within b h factors r there written =
-    let row = positionRow b (layout b) r in
-    let within = h .position-rows r there in
-    let k = seriesRow b (layout b) (row .series) in
-    least-for (seriesOf k) (positionOf row)
-    (h .series-rows (row .series) (within .series-below) .fa-least)
-    (factors (row .series) (within .series-below))
-    (beside within)
-    (rebate-none within)
-
 pub least : (b : List ℕ) → LeastDemand b
 least b a e factors =
     let known = accepted-within b a e in

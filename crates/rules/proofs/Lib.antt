@@ -9,7 +9,7 @@ pub mod SeriesLimits
 pub mod PositionLimits
 pub mod TrailerLimits
 pub mod Reading
-pub mod Order
+pub mod CheckOrder
 -- The unit margin covers and is least; a pair covers.
 pub mod Mirror
 pub mod Touch
@@ -19,5 +19,17 @@ pub mod RowFacts
 pub mod Least
 pub mod SameRows
 pub mod PairCover
+-- Pairing: the choice, the rounds, the lines.
+pub mod PairOrder
+pub mod Search
+pub mod Sums
+pub mod Rounds
+pub mod Weights
+pub mod Counts
+pub mod MayPair
+pub mod LineLaws
+pub mod PairPromises
+pub mod AccountCover
+pub mod PairingExample
 -- Demand 3.
 pub mod Demand3

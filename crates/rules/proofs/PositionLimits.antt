@@ -15,8 +15,8 @@ use Rattle.rules.specs.declared.Fault.the-variants.{Clean, Found}
 use Rattle.rules.specs.declared.PositionRow.{PositionRow}
 use Rattle.rules.specs.declared.Refusal.the-variants.{PositionTerms, PositionRange, LimiterPrice, BarrierPrice, BarrierSide}
 use Rattle.rules.specs.declared.SeriesRow.{SeriesRow}
-use Rattle.rules.proofs.Chain.{both-fail, both-hold, clean, five-fail, in-range, inside, is-zero, none-of-five, none-of-three, not-both, one-fails, passed, three-fail, two-held, zero-is}
-use Rattle.rules.proofs.Tests.{neither}
+use Rattle.rules.proofs.Chain.{clean, five-fail, in-range, inside, is-zero, none-of-five, none-of-three, passed, three-fail, zero-is}
+use Rattle.rules.proofs.Tests.{both, both-fail, both-hold, neither, not-both, one-fails}
 
 -- A bit that is 0 is not 1, and one that is not 1 is 0.
 bit-clear : (n : ℕ) → n ≡ 0 → eqb n 1 ≡ false
@@ -112,11 +112,11 @@ module _ (s : ℕ) (k : SeriesRow) (r : PositionRow) where
       (three-fail (not limited && nonzero (r .pb)) (limited && call && (leb (r .pb) (r .pe) || ltb 10_000_000 (r .pb))) (limited && not call && leb (r .pe) (r .pb))
       (one-fails (not limited) (nonzero (r .pb)) (λ t. zero-is (r .pb) (h .pb-none (bit-zero (r .flags / 2) t))))
       (one-fails (limited && call) (leb (r .pb) (r .pe) || ltb 10_000_000 (r .pb)) (λ t.
-      let u = two-held limited call t in
+      let u = both limited call t in
       let z = h .pb-call (eqb-true (r .flags / 2 % 2) 1 (u .0)) (eqb-true (k .option) 0 (u .1)) in
       both-fail (leb (r .pb) (r .pe)) (ltb 10_000_000 (r .pb)) (lt-leb (r .pb) (r .pe) (z .0)) (le-ltb 10_000_000 (r .pb) (z .1))))
       (one-fails (limited && not call) (leb (r .pe) (r .pb)) (λ t.
-      let u = two-held limited (not call) t in
+      let u = both limited (not call) t in
       let v = eqb-false (k .option) 0 (not-true call (u .1)) in
       lt-leb (r .pe) (r .pb) (h .pb-put (eqb-true (r .flags / 2 % 2) 1 (u .0)) (omega arith)))))
       (clean (wrongBarrierPrice r) BarrierPrice (refuse (wrongBarrierSide (k .pv) r) BarrierSide Clean)

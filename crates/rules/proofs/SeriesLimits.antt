@@ -15,8 +15,8 @@ use Rattle.rules.specs.declared.Fault.the-variants.{Clean, Found}
 use Rattle.rules.specs.declared.PositionRow.{PositionRow}
 use Rattle.rules.specs.declared.Refusal.the-variants.{SeriesRange, SeriesType, PositionTerms, PositionRange, LimiterPrice, BarrierPrice, BarrierSide}
 use Rattle.rules.specs.declared.SeriesRow.{SeriesRow}
-use Rattle.rules.proofs.Chain.{both-fail, clean, five-fail, in-range, inside, is-zero, none-of-five, none-of-three, not-both, one-fails, passed, three-fail, zero-is}
-use Rattle.rules.proofs.Tests.{neither}
+use Rattle.rules.proofs.Chain.{clean, five-fail, in-range, inside, is-zero, none-of-five, none-of-three, passed, three-fail, zero-is}
+use Rattle.rules.proofs.Tests.{both-fail, neither, not-both, one-fails}
 
 pub series-within : (r : SeriesRow) → seriesRowFault r ≡ Clean → SeriesWithin r
 unfolding seriesRowFault

@@ -1,10 +1,11 @@
 -- Tests: what holds of a choice made by a test, and of each part of a test that joins two.
 -- Assumes nothing.
 use Prim.Native.Nat.{ℕ, _≤_, _<_}
-use mathlib.Core.Bool.{Bool, true, false, cond, _||_, true≢false}
-use mathlib.Core.Path.{_≡_, refl}
-use borrow.Author.Tests.{ltb-true, ltb-false}
-use lib.Dec.{ltb}
+use mathlib.Core.Bool.{Bool, true, false, cond, _&&_, _||_, true≢false}
+use mathlib.Core.Logic.{_⊎_, inl, inr}
+use mathlib.Core.Path.{_≡_, refl, sym, _∙_}
+use borrow.Author.Tests.{eq-eqb, eqb-false, eqb-true, ltb-false, ltb-true, ne-eqb}
+use lib.Dec.{eqb, ltb}
 
 -- P holds of the value chosen if it holds of each value where that one is chosen.
 pub cond-case :
@@ -26,3 +27,41 @@ or-case false b e f g = g e
 pub neither : (a b : Bool) → (a || b) ≡ false → (a ≡ false) × (b ≡ false)
 neither true b e = absurd (true≢false e)
 neither false b e = (refl, e)
+
+-- Where both hold, each does; where one of two holds, one does.
+pub both : (x y : Bool) → (x && y) ≡ true → (x ≡ true) × (y ≡ true)
+both true y e = (refl, e)
+both false y e = let z : false ≡ true = e in (z, cc)
+
+pub either : (x y : Bool) → (x || y) ≡ true → (x ≡ true) ⊎ (y ≡ true)
+either true y e = inl refl
+either false y e = inr e
+
+-- A test that cannot be true is false.
+pub refuted : (x : Bool) → (x ≡ true → ⊥) → x ≡ false
+refuted true no-way = absurd (no-way refl)
+refuted false no-way = refl
+
+pub eqb-sym : (a b : ℕ) → eqb a b ≡ eqb b a
+eqb-sym a b = go (eqb a b) refl
+  where
+    go : (x : Bool) → eqb a b ≡ x → eqb a b ≡ eqb b a
+    go true e = e ∙ sym (eq-eqb b a (sym (eqb-true a b e)))
+    go false e = e ∙ sym (ne-eqb b a (λ d. eqb-false a b e (sym d)))
+
+-- Where two tests do not both hold, and where neither does.
+pub not-both : (s t : Bool) → (s && t) ≡ false → s ≡ true → t ≡ false
+not-both true t e h = e
+not-both false t e h = absurd (true≢false (sym h))
+
+pub both-fail : (s t : Bool) → s ≡ false → t ≡ false → (s || t) ≡ false
+both-fail true t h k = absurd (true≢false h)
+both-fail false t h k = k
+
+pub one-fails : (s t : Bool) → (s ≡ true → t ≡ false) → (s && t) ≡ false
+one-fails true t h = h refl
+one-fails false t h = refl
+
+pub both-hold : (s t : Bool) → s ≡ true → t ≡ true → (s && t) ≡ true
+both-hold true t h k = k
+both-hold false t h k = absurd (true≢false (sym h))

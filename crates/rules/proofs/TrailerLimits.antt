@@ -14,8 +14,8 @@ use Rattle.rules.specs.Limits.{Placed, TrailerWithin}
 use Rattle.rules.specs.Refusals.{noPositions, nonzero, outside, refuse, trailerFault, wrongDistance, wrongSize, wrongTrailer}
 use Rattle.rules.specs.declared.Fault.the-variants.{Clean}
 use Rattle.rules.specs.declared.Refusal.the-variants.{FileSize, Trailer, NoPositions, Distance}
-use Rattle.rules.proofs.Chain.{both-fail, clean, in-range, inside, is-zero, none-of-three, passed, three-fail, zero-is}
-use Rattle.rules.proofs.Tests.{neither}
+use Rattle.rules.proofs.Chain.{clean, in-range, inside, is-zero, none-of-three, passed, three-fail, zero-is}
+use Rattle.rules.proofs.Tests.{both-fail, neither}
 
 module _ (b : List ℕ) where
   pub trailer-within : trailerFault b ≡ Clean → TrailerWithin b

@@ -110,12 +110,16 @@ marginForList b n (Accepted l) =
 unfoldable pub marginAnswer : List ℕ → ℕ → MarginAnswer
 marginAnswer b n = marginForList b n (fileRead b)
 
--- What the list holds after that answer: the lines, and "entries after it stay"; on a refusal "Every lent list keeps
--- its content".
-abbrev pub listFor : List ℕ → List Line → FileRead → MarginAnswer → List Line
-listFor b out read (NoTotal w i) = out
-listFor b out (Refused w i) (Total n t) = out
-listFor b out (Accepted l) (Total n t) = lines (accountOf b l) ++ drop n out
+-- The lines of an answer: those of the account, none on a refusal.
+abbrev pub linesFor : List ℕ → FileRead → MarginAnswer → List Line
+linesFor b read (NoTotal w i) = []
+linesFor b (Refused w i) (Total n t) = []
+linesFor b (Accepted l) (Total n t) = lines (accountOf b l)
 
+unfoldable pub linesGiven : List ℕ → ℕ → List Line
+linesGiven b n = linesFor b (fileRead b) (marginAnswer b n)
+
+-- What the list holds after that answer: the lines, and "entries after it stay"; on a refusal there are none, so that
+-- "Every lent list keeps its content".
 unfoldable pub listAfter : List ℕ → List Line → List Line
-listAfter b out = listFor b out (fileRead b) (marginAnswer b (length out))
+listAfter b out = linesGiven b (length out) ++ drop (length (linesGiven b (length out))) out

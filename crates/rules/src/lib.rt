@@ -142,7 +142,9 @@ pub enum Choice {
     NoPair,
 }
 
-// An entry of the caller's list: 1 for a pair or 2 for a row left, then that line's fields in document 01's order.
+// An entry of the caller's list: 1 for a pair or 2 for a row left, then that line's fields in document 01's order. A C
+// program lends it as a struct of five 64-bit numbers.
+#[repr(C)]
 pub struct Line {
     pub kind: u64,
     pub first: u64,

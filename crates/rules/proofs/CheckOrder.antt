@@ -71,20 +71,20 @@ bytes2 n = n % 256 ∷ n / 256 % 256 ∷ []
 abbrev bytes4 : ℕ → List ℕ
 bytes4 n = n % 256 ∷ n / 256 % 256 ∷ n / 65_536 % 256 ∷ n / 16_777_216 % 256 ∷ []
 
--- A call series row of the PV given.
-abbrev seriesBytes : ℕ → List ℕ
-seriesBytes pv =
+-- A call series row of the PV and last spare byte given.
+abbrev seriesBytes : ℕ → ℕ → List ℕ
+seriesBytes pv spare =
     bytes4 pv
     ++ bytes4 1_200_000
     ++ bytes4 800_000
     ++ bytes4 50_000
     ++ bytes4 5
-    ++ (0 ∷ 0 ∷ 0 ∷ 0 ∷ [])
+    ++ (0 ∷ 0 ∷ 0 ∷ spare ∷ [])
 
--- A European written row of the kind, contracts and barrier price given.
-abbrev positionBytes : ℕ → ℕ → ℕ → List ℕ
-positionBytes kind q price =
-    (0 ∷ 0 ∷ 1 ∷ kind ∷ 4 ∷ 0 ∷ 0 ∷ 0 ∷ [])
+-- A European written row of the kind, last spare byte, contracts and barrier price given.
+abbrev positionBytes : ℕ → ℕ → ℕ → ℕ → List ℕ
+positionBytes kind spare q price =
+    (0 ∷ 0 ∷ 1 ∷ kind ∷ 4 ∷ 0 ∷ 0 ∷ spare ∷ [])
     ++ bytes4 q
     ++ bytes4 3100
     ++ bytes4 0
@@ -96,9 +96,9 @@ positionBytes kind q price =
 abbrev trailerBytes : ℕ → ℕ → ℕ → ℕ → List ℕ
 trailerBytes s p d spare = bytes2 s ++ bytes2 p ++ bytes4 d ++ bytes4 spare
 
--- Two series rows by PV, and two position rows.
+-- Two series rows, the second by its PV and last spare byte, and two position rows.
 abbrev file : ℕ → ℕ → List ℕ → List ℕ
-file pv pv₂ positions = seriesBytes pv ++ seriesBytes pv₂ ++ positions ++ trailerBytes 2 2 (span 2 2) 0
+file pv spare positions = seriesBytes 3000 0 ++ seriesBytes pv spare ++ positions ++ trailerBytes 2 2 (span 2 2) 0
 
 pub file-order :
     -- 1 before 2: 11 zero bytes
@@ -112,12 +112,15 @@ pub file-order :
     × (fileRead (trailerBytes 1 1 68 0) ≡ Refused Distance 0)
     × (fileRead (trailerBytes 1 1 12 0) ≡ Refused Distance 0)
     -- A later series row before an earlier position row: 5 in series row 1, 8 in position row 0
-    × (fileRead (file 3000 0 (positionBytes 0 0 0 ++ positionBytes 0 1 0)) ≡ Refused SeriesRange 1)
+    × (fileRead (file 0 0 (positionBytes 0 0 0 0 ++ positionBytes 0 0 1 0)) ≡ Refused SeriesRange 1)
     -- An earlier row before a later one: 11 in position row 0, 7 in row 1
-    × (fileRead (file 3000 3000 (positionBytes 1 1 3000 ++ positionBytes 5 1 0)) ≡ Refused BarrierSide 0)
+    × (fileRead (file 3000 0 (positionBytes 1 0 1 3000 ++ positionBytes 5 0 1 0)) ≡ Refused BarrierSide 0)
     -- The last row alone
-    × (fileRead (file 3000 3000 (positionBytes 1 1 3001 ++ positionBytes 2 0 2999)) ≡ Refused PositionRange 1)
+    × (fileRead (file 3000 0 (positionBytes 1 0 1 3001 ++ positionBytes 2 0 0 2999)) ≡ Refused PositionRange 1)
+    -- The last spare byte of a series row and of a position row
+    × (fileRead (file 3000 1 (positionBytes 0 0 1 0 ++ positionBytes 0 0 1 0)) ≡ Refused SeriesType 1)
+    × (fileRead (file 3000 0 (positionBytes 0 0 1 0 ++ positionBytes 0 1 1 0)) ≡ Refused PositionTerms 1)
     -- Accepted, after a cover sheet of three bytes that is not read
-    × (fileRead (255 ∷ 1 ∷ 2 ∷ file 3000 3000 (positionBytes 1 1 3001 ++ positionBytes 2 1 2999)) ≡ Accepted (record { series = 2; positions = 2; start = 3; middle = 51 }))
+    × (fileRead (255 ∷ 1 ∷ 2 ∷ file 3000 0 (positionBytes 1 0 1 3001 ++ positionBytes 2 0 1 2999)) ≡ Accepted (record { series = 2; positions = 2; start = 3; middle = 51 }))
 unfolding fileRead layout seriesRow positionRow seriesRows positionRows rows trailerFault seriesRowFault positionRowFault matchedFault refuse
-file-order = (refl, refl, refl, refl, refl, refl, refl, refl, refl, refl)
+file-order = (refl, refl, refl, refl, refl, refl, refl, refl, refl, refl, refl, refl)

@@ -1,0 +1,28 @@
+-- Lines as plain numbers: five to a line, in the order of document 01, one line after the other.
+use Prim.Native.Nat.{ℕ, zero, suc, _+_, _*_}
+use mathlib.Core.List.{List, [], _∷_, _++_}
+use lib.ListN.{getD}
+use Rattle.rules.specs.declared.Line.{Line}
+use Rattle.rules.specs.declared.MarginAnswer.{MarginAnswer}
+use Rattle.rules.specs.declared.MarginAnswer.the-variants.{Total, NoTotal}
+
+-- Line i of the numbers.
+abbrev pub lineFrom : List ℕ → ℕ → Line
+lineFrom numbers i =
+    record {
+      kind = getD numbers (5 * i) 0;
+      first = getD numbers (5 * i + 1) 0;
+      second = getD numbers (5 * i + 2) 0;
+      third = getD numbers (5 * i + 3) 0;
+      fourth = getD numbers (5 * i + 4) 0;
+    }
+
+-- The first n lines of the numbers.
+unfoldable pub linesFrom : List ℕ → ℕ → List Line
+linesFrom numbers zero = []
+linesFrom numbers (suc n) = linesFrom numbers n ++ (lineFrom numbers n ∷ [])
+
+-- How many lines an answer has.
+abbrev pub lineCount : MarginAnswer → ℕ
+lineCount (Total n t) = n
+lineCount (NoTotal w i) = 0
