@@ -31,5 +31,7 @@ pub mod LineLaws
 pub mod PairPromises
 pub mod AccountCover
 pub mod PairingExample
+-- Bounds for the code.
+pub mod Bounds
 -- Demand 3.
 pub mod Demand3
