@@ -6,18 +6,27 @@ use rules::FileRead;
 use rules::Layout;
 use rules::Refusal;
 ghost use mathlib.Core.Path.{_≡_};
-ghost use Rattle.rules.specs.Refusals.{fileRead};
+ghost use Rattle.rules.specs.Refusals.{fileRead, number};
 
-fn print_number(n: u64) {
+// Writes a space and the number, and answers the number.
+pub fn print_number(n: u64) -> u64
+    ensures { λ r. ⌜ r ≡ n ⌝ }
+{
     io::write_all(STDOUT_FILENO, b" ");
     io::print_decimal(STDOUT_FILENO, n);
+    n
 }
 
-fn print_refused(why: Refusal, row: usize) {
+// Writes a line with `refused`, the number and the row, and answers the number.
+pub fn print_refused(why: Refusal, row: usize) -> u32
+    ensures { λ r. ⌜ r ≡ number why ⌝ }
+{
+    let n = refusal_number(why);
     io::write_all(STDOUT_FILENO, b"refused");
-    print_number(refusal_number(why) as u64);
+    print_number(n as u64);
     print_number(row as u64);
     io::write_all(STDOUT_FILENO, b"\n");
+    n
 }
 
 fn print_accepted(l: Layout) {
@@ -30,7 +39,9 @@ fn print_accepted(l: Layout) {
 fn print_answer(answer: FileRead) {
     match answer {
         FileRead::Accepted(l) => print_accepted(l),
-        FileRead::Refused(why, row) => print_refused(why, row),
+        FileRead::Refused(why, row) => {
+            print_refused(why, row);
+        }
     }
 }
 

@@ -1,0 +1,89 @@
+// The unit spread margin, rule by rule.
+use crate::out::down_out_spread;
+use crate::out::up_out_spread;
+use crate::terms::has_limiter;
+use crate::terms::kind_of;
+use crate::terms::price_of;
+use crate::terms::same_terms;
+use numbers::fine_units;
+use numbers::less;
+use position::quantities::normalised;
+use rules::Barrier;
+use rules::OptionType;
+use rules::Position;
+use rules::Series;
+use rules::Spread;
+ghost use mathlib.Core.Path.{_≡_};
+ghost use Rattle.rules.specs.Spreads.{oneKindSpread, spreadBetween, strikeLoss, unitSpread};
+ghost use Rattle.rules.specs.declared.Barrier.the-variants.{DownOut, UpOut};
+
+// No barriers: max(0; PEh − PEw) for calls, max(0; PEw − PEh) for puts.
+fn strike_loss(option: OptionType, h: Position, w: Position) -> u64
+    ensures { λ r. ⌜ r ≡ strikeLoss option h w ⌝ }
+{
+    match option {
+        OptionType::Call => less(fine_units(h.pe), fine_units(w.pe)),
+        OptionType::Put => less(fine_units(w.pe), fine_units(h.pe)),
+    }
+}
+
+// Both up-and-out pair with OUh ≥ OUw.
+fn both_up_out(ouw: u32, ouh: u32, s: Series, h: Position, w: Position) -> Spread
+    ensures { λ r. ⌜ r ≡ oneKindSpread (UpOut ouw) ouh s h w ⌝ }
+{
+    if ouw <= ouh {
+        return Spread::Margin(up_out_spread(s, ouh, ouw, h, w));
+    }
+    Spread::Barred
+}
+
+// Both down-and-out pair with ODh ≤ ODw.
+fn both_down_out(odw: u32, odh: u32, s: Series, h: Position, w: Position) -> Spread
+    ensures { λ r. ⌜ r ≡ oneKindSpread (DownOut odw) odh s h w ⌝ }
+{
+    if odh <= odw {
+        return Spread::Margin(down_out_spread(s, odh, odw, h, w));
+    }
+    Spread::Barred
+}
+
+// Two rows whose barriers are of one kind: the written barrier and the held barrier's price.
+fn one_kind_spread(barrier: Barrier, held: u32, s: Series, h: Position, w: Position) -> Spread
+    ensures { λ r. ⌜ r ≡ oneKindSpread barrier held s h w ⌝ }
+{
+    let option = s.option;
+    match barrier {
+        Barrier::NoBarrier => Spread::Margin(strike_loss(option, h, w)),
+        Barrier::UpIn(_) => Spread::Barred,
+        Barrier::DownIn(_) => Spread::Barred,
+        Barrier::UpOut(ouw) => both_up_out(ouw, held, s, h, w),
+        Barrier::DownOut(odw) => both_down_out(odw, held, s, h, w),
+    }
+}
+
+// The rules in document 01's order, of normalised positions.
+fn spread_between(s: Series, h: Position, w: Position) -> Spread
+    ensures { λ r. ⌜ r ≡ spreadBetween s h w ⌝ }
+{
+    if same_terms(h, w) {
+        return Spread::Margin(0);
+    }
+    let held = h.limiter;
+    let written = w.limiter;
+    if has_limiter(held) | has_limiter(written) {
+        return Spread::Barred;
+    }
+    let held = h.barrier;
+    let written = w.barrier;
+    if kind_of(held) == kind_of(written) {
+        return one_kind_spread(written, price_of(held), s, h, w);
+    }
+    Spread::Barred
+}
+
+// The unit spread margin of a held and a written row, in fine units, or no pair.
+pub fn unit_spread(s: Series, h: Position, w: Position) -> Spread
+    ensures { λ r. ⌜ r ≡ unitSpread s h w ⌝ }
+{
+    spread_between(s, normalised(h), normalised(w))
+}

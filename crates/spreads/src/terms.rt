@@ -1,0 +1,106 @@
+// Two positions compared by their terms.
+use rules::Barrier;
+use rules::Limiter;
+use rules::OptionType;
+use rules::Position;
+use rules::Side;
+ghost use mathlib.Core.Path.{_≡_};
+ghost use Rattle.rules.specs.Pairs.{europeanOrOld, isHeld, isWritten};
+ghost use Rattle.rules.specs.Spreads.{hasLimiter, kindOf, priceOf, same, sameLimiter, strikeCovers};
+
+pub fn kind_of(barrier: Barrier) -> u32
+    ensures { λ r. ⌜ r ≡ kindOf barrier ⌝ }
+{
+    match barrier {
+        Barrier::NoBarrier => 0,
+        Barrier::UpIn(_) => 1,
+        Barrier::DownIn(_) => 2,
+        Barrier::UpOut(_) => 3,
+        Barrier::DownOut(_) => 4,
+    }
+}
+
+pub fn price_of(barrier: Barrier) -> u32
+    ensures { λ r. ⌜ r ≡ priceOf barrier ⌝ }
+{
+    match barrier {
+        Barrier::NoBarrier => 0,
+        Barrier::UpIn(price) => price,
+        Barrier::DownIn(price) => price,
+        Barrier::UpOut(price) => price,
+        Barrier::DownOut(price) => price,
+    }
+}
+
+pub fn has_limiter(limiter: Limiter) -> bool
+    ensures { λ r. ⌜ r ≡ hasLimiter limiter ⌝ }
+{
+    match limiter {
+        Limiter::NoLimiter => false,
+        Limiter::At(_) => true,
+    }
+}
+
+// A limiter at 0 is not the same as none.
+fn same_limiter(h: Limiter, w: Limiter) -> bool
+    ensures { λ r. ⌜ r ≡ sameLimiter h w ⌝ }
+{
+    match h {
+        Limiter::NoLimiter => match w {
+            Limiter::NoLimiter => true,
+            Limiter::At(_) => false,
+        },
+        Limiter::At(held) => match w {
+            Limiter::NoLimiter => false,
+            Limiter::At(written) => held == written,
+        },
+    }
+}
+
+// Same PE, limiter, barrier and REB.
+pub fn same_terms(h: Position, w: Position) -> bool
+    ensures { λ r. ⌜ r ≡ same h w ⌝ }
+{
+    let held = h.limiter;
+    let written = w.limiter;
+    let limiters = same_limiter(held, written);
+    let held = h.barrier;
+    let written = w.barrier;
+    let kinds = kind_of(held) == kind_of(written);
+    let prices = price_of(held) == price_of(written);
+    (h.pe == w.pe) & limiters & (kinds & prices) & (h.reb == w.reb)
+}
+
+// Call with PEh ≤ PEw, put with PEh ≥ PEw.
+pub fn strike_covers(option: OptionType, h: Position, w: Position) -> bool
+    ensures { λ r. ⌜ r ≡ strikeCovers option h w ⌝ }
+{
+    match option {
+        OptionType::Call => h.pe <= w.pe,
+        OptionType::Put => w.pe <= h.pe,
+    }
+}
+
+pub fn is_written(side: Side) -> bool
+    ensures { λ r. ⌜ r ≡ isWritten side ⌝ }
+{
+    match side {
+        Side::Held => false,
+        Side::Written => true,
+    }
+}
+
+pub fn is_held(side: Side) -> bool
+    ensures { λ r. ⌜ r ≡ isHeld side ⌝ }
+{
+    match side {
+        Side::Held => true,
+        Side::Written => false,
+    }
+}
+
+pub fn european_or_old(p: Position) -> bool
+    ensures { λ r. ⌜ r ≡ europeanOrOld p ⌝ }
+{
+    p.european | p.old
+}
