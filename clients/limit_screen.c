@@ -1,0 +1,76 @@
+/*
+ * The limit screen's question: the amount of one position of an account file.
+ *
+ * limit_screen FILE ROW    prints the amount in centavos, or why there is none. Exit status 0 with an amount, 1 with a
+ *                          refusal, 2 where the file cannot be read or the words are wrong.
+ */
+#include "serpentgleam.h"
+
+#include <errno.h>
+#include <inttypes.h>
+#include <stdio.h>
+#include <stdlib.h>
+#include <string.h>
+
+/* One byte more than a file may have, so that a longer one is refused and not cut short. */
+#define SPACE 65537
+
+static const char *refusal(int64_t number)
+{
+    switch (number) {
+    case 1: return "the file has fewer than 12 or more than 65,536 bytes";
+    case 2: return "the counts or the last four bytes of the trailer are wrong";
+    case 3: return "the account has no positions";
+    case 4: return "the trailer's distance does not fit the file";
+    case 5: return "a series row has PV, fa, fb, f3 or M outside its range";
+    case 6: return "a series row has a wrong type or spare byte";
+    case 7: return "a position row has a wrong series, side, kind, flag or spare byte";
+    case 8: return "a position row has a wrong Q, PE, REB or premium";
+    case 9: return "a position row has a wrong limiter";
+    case 10: return "a position row has a barrier price outside its range, or a rebate without barrier";
+    case 11: return "a position row has its barrier on the wrong side of today's price";
+    case 13: return "the account has no such row";
+    default: return "unknown refusal";
+    }
+}
+
+int main(int count, char **words)
+{
+    static uint8_t file[SPACE];
+    char *end;
+    FILE *in;
+    size_t length;
+    uint64_t row;
+    int64_t answer;
+
+    if (count != 3) {
+        fprintf(stderr, "usage: limit_screen FILE ROW\n");
+        return 2;
+    }
+    errno = 0;
+    row = strtoull(words[2], &end, 10);
+    if (errno != 0 || end == words[2] || *end != '\0' || strchr(words[2], '-') != NULL) {
+        fprintf(stderr, "limit_screen: the row is a whole number from 0 on: %s\n", words[2]);
+        return 2;
+    }
+    in = fopen(words[1], "rb");
+    if (in == NULL) {
+        fprintf(stderr, "limit_screen: %s: %s\n", words[1], strerror(errno));
+        return 2;
+    }
+    length = fread(file, 1, SPACE, in);
+    if (ferror(in)) {
+        fprintf(stderr, "limit_screen: %s cannot be read\n", words[1]);
+        fclose(in);
+        return 2;
+    }
+    fclose(in);
+
+    answer = serpentgleam_position_amount(file, length, row);
+    if (answer < 0) {
+        printf("refused %" PRId64 ": %s\n", -answer, refusal(-answer));
+        return 1;
+    }
+    printf("%" PRId64 "\n", answer);
+    return 0;
+}
