@@ -1,74 +1,54 @@
-use lib.ListN.{length-take}
-use native.Mathlib.Omega.{arith}
-use borrow.Author.Needs.{needs}
 use Rattle.framing.proofs.take_file.Statement.{statement}
 use Rattle.framing.proofs.take_file.Tie as tie
-use Rattle.framing.proofs.take_file.Reads as reads
-use Rattle.framing.proofs.take_file.Lts as lts
-use Rattle.framing.proofs.skip.Reads as skip-reads
-use Rattle.io.proofs.read_full.Reads as read-full-reads
+use borrow.Author.Needs.{needs}
+use lib.ListN.{length-take}
+use native.Mathlib.Omega.{arith}
 
--- src/lib.rt:52:29
 slice-relend-prefix-read-full : tie.Need-slice-relend-prefix-read-full
 slice-relend-prefix-read-full c = search needs
 
--- src/lib.rt:52:29
 slice-aggregate-read-full : tie.Need-slice-aggregate-read-full
 slice-aggregate-read-full c = simp length-take (omega arith)
 
--- src/lib.rt:52:12
 read-full-requires : tie.Need-read-full-requires
 read-full-requires c κs = search needs
 
--- src/lib.rt:53:13
 same-length : tie.Need-same-length
 same-length c = search needs
 
--- src/lib.rt:53:13
 returns : tie.Need-returns
 returns c = search needs
 
--- src/lib.rt:55:9
 same-length-2 : tie.Need-same-length-2
 same-length-2 c = search needs
 
--- src/lib.rt:55:9
 returns-2 : tie.Need-returns-2
 returns-2 c = search needs
 
--- src/lib.rt:57:8
 read-full-requires-2 : tie.Need-read-full-requires-2
 read-full-requires-2 c κs = search needs
 
--- src/lib.rt:58:9
 same-length-3 : tie.Need-same-length-3
 same-length-3 c = search needs
 
--- src/lib.rt:58:9
 returns-3 : tie.Need-returns-3
 returns-3 c = search needs
 
--- src/lib.rt:60:13
 sub-skip : tie.Need-sub-skip
 sub-skip c = search needs
 
--- src/lib.rt:60:8
 skip-requires : tie.Need-skip-requires
 skip-requires c κs = search needs
 
--- src/lib.rt:61:9
 same-length-4 : tie.Need-same-length-4
 same-length-4 c = search needs
 
--- src/lib.rt:61:9
 returns-4 : tie.Need-returns-4
 returns-4 c = search needs
 
--- src/lib.rt:47:1
 same-length-5 : tie.Need-same-length-5
 same-length-5 c = search needs
 
--- src/lib.rt:47:1
 returns-5 : tie.Need-returns-5
 returns-5 c = search needs
 

@@ -1,31 +1,23 @@
 use Rattle.numbers.proofs.Products.{amount-most, factor-fits, rest-fits, split, whole-fits}
-use native.Mathlib.Omega.{arith}
 use Rattle.numbers.proofs.amount.Statement.{statement}
 use Rattle.numbers.proofs.amount.Tie as tie
-use Rattle.numbers.proofs.amount.Reads as reads
-use Rattle.numbers.proofs.amount.Lts as lts
+use native.Mathlib.Omega.{arith}
 
--- src/lib.rt:46:13
 mul-n : tie.Need-mul-n
 mul-n c = let a = c .args in omega (arith, factor-fits (a .m) (a .q) (c .pre .1) (c .pre .2))
 
--- src/lib.rt:47:5
 mul-result : tie.Need-mul-result
 mul-result c = let a = c .args in omega (arith, whole-fits (a .unit) _ (c .pre .0) (factor-fits (a .m) (a .q) (c .pre .1) (c .pre .2)))
 
--- src/lib.rt:47:31
 mul-result-2 : tie.Need-mul-result-2
 mul-result-2 c = let a = c .args in omega (arith, rest-fits (a .unit) _ (factor-fits (a .m) (a .q) (c .pre .1) (c .pre .2)))
 
--- src/lib.rt:47:31
 add-result : tie.Need-add-result
 add-result c = let a = c .args in omega (arith, rest-fits (a .unit) _ (factor-fits (a .m) (a .q) (c .pre .1) (c .pre .2)))
 
--- src/lib.rt:47:5
 add-result-2 : tie.Need-add-result-2
 add-result-2 c = let a = c .args in omega (arith, whole-fits (a .unit) _ (c .pre .0) (factor-fits (a .m) (a .q) (c .pre .1) (c .pre .2)), rest-fits (a .unit) _ (factor-fits (a .m) (a .q) (c .pre .1) (c .pre .2)))
 
--- src/lib.rt:42:1
 returns : tie.Need-returns
 returns c = let a = c .args in (split (a .unit) (a .m) (a .q), rw (split (a .unit) (a .m) (a .q)) (amount-most (a .unit) (a .m) (a .q) (c .pre .0) (c .pre .1) (c .pre .2)))
 

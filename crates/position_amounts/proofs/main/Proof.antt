@@ -1,13 +1,10 @@
-use lib.ListN.{length, length-replicate}
-use borrow.Author.Needs.{needs}
-use native.Mathlib.Omega.{arith}
-use mathlib.Core.Path.{_≡_, sym, _∙_}
 use Prim.Native.Nat.{ℕ, _-_, _≤_}
 use Rattle.position_amounts.proofs.main.Statement.{statement}
 use Rattle.position_amounts.proofs.main.Tie as tie
-use Rattle.position_amounts.proofs.main.Reads as reads
-use Rattle.position_amounts.proofs.main.Lts as lts
-use Rattle.position_amounts.proofs.report_next.Reads as report-next-reads
+use borrow.Author.Needs.{needs}
+use lib.ListN.{length, length-replicate}
+use mathlib.Core.Path.{_≡_, sym, _∙_}
+use native.Mathlib.Omega.{arith}
 
 abbrev Inv-loop : tie.InvT-loop
 Inv-loop space₀ files₀ space files = (length space ≡ 65537) × (files ≤ 1_000_000_000)
@@ -15,35 +12,27 @@ Inv-loop space₀ files₀ space files = (length space ≡ 65537) × (files ≤ 
 abbrev μ-loop : tie.MeasureT-loop
 μ-loop space₀ files₀ space files = 1_000_000_000 - files
 
--- src/main.rt:65:5
 loop-holds : tie.Need-loop-holds Inv-loop μ-loop
 loop-holds c = (length-replicate {A = ℕ} 65537 0, omega arith)
 
--- src/main.rt:66:25
 slice-aggregate-report-next : tie.Need-slice-aggregate-report-next Inv-loop μ-loop
 slice-aggregate-report-next c = sym (c .before .before .loop .inv .0)
 
--- src/main.rt:66:13
 report-next-requires : tie.Need-report-next-requires Inv-loop μ-loop
 report-next-requires c κs = search needs
 
--- src/main.rt:67:13
 returns : tie.Need-returns Inv-loop μ-loop
 returns c = search needs
 
--- src/main.rt:69:9
 add-files : tie.Need-add-files Inv-loop μ-loop
 add-files c = omega arith
 
--- src/main.rt:65:5
 loop-less : tie.Need-loop-less Inv-loop μ-loop
 loop-less c = omega arith
 
--- src/main.rt:65:5
 loop-again : tie.Need-loop-again Inv-loop μ-loop
 loop-again c = (c .before .before .report-next .kept .0 ∙ c .before .before .before .before .before .loop .inv .0, omega arith)
 
--- src/main.rt:62:1
 returns-2 : tie.Need-returns-2 Inv-loop μ-loop
 returns-2 c = search needs
 

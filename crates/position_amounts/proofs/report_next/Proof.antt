@@ -1,71 +1,51 @@
-use lib.ListN.{length-take}
-use native.Mathlib.Omega.{arith}
-use borrow.Author.Needs.{needs}
 use Rattle.position_amounts.proofs.report_next.Statement.{statement}
 use Rattle.position_amounts.proofs.report_next.Tie as tie
-use Rattle.position_amounts.proofs.report_next.Reads as reads
-use Rattle.position_amounts.proofs.report_next.Lts as lts
-use Rattle.framing.proofs.next_file.Reads as next-file-reads
-use Rattle.io.proofs.write_all.Reads as write-all-reads
-use Rattle.position_amounts.proofs.print_amounts.Reads as print-amounts-reads
+use borrow.Author.Needs.{needs}
+use lib.ListN.{length-take}
+use native.Mathlib.Omega.{arith}
 
--- src/main.rt:49:11
 next-file-requires : tie.Need-next-file-requires
 next-file-requires c κs = search needs
 
--- src/main.rt:50:21
 enum-known-n : tie.Need-enum-known-n
 enum-known-n c = search needs
 
--- src/main.rt:51:27
 slice-reshare-prefix-print-amounts : tie.Need-slice-reshare-prefix-print-amounts
 slice-reshare-prefix-print-amounts c = omega (arith, rw (c .before .n .given .1) at (c .before .before .before .before .before .next-file .ensures .1), c .before .before .before .before .before .next-file .ensures .0)
 
--- src/main.rt:51:27
 slice-aggregate-print-amounts : tie.Need-slice-aggregate-print-amounts
 slice-aggregate-print-amounts c = simp length-take (omega (arith, rw (c .before .before .n .given .1) at (c .before .before .before .before .before .before .next-file .ensures .1), c .before .before .before .before .before .before .next-file .ensures .0))
 
--- src/main.rt:51:13
 print-amounts-requires : tie.Need-print-amounts-requires
 print-amounts-requires c κs = search needs
 
--- src/main.rt:55:42
 enum-told : tie.Need-enum-told
 enum-told c = search needs
 
--- src/main.rt:55:42
 slice-aggregate-write-all : tie.Need-slice-aggregate-write-all
 slice-aggregate-write-all c = search needs
 
--- src/main.rt:55:13
 write-all-requires : tie.Need-write-all-requires
 write-all-requires c κs = search needs
 
--- src/main.rt:58:23
 enum-told-2 : tie.Need-enum-told-2
 enum-told-2 c = search needs
 
--- src/main.rt:46:1
 same-length : tie.Need-same-length
 same-length c = search needs
 
--- src/main.rt:46:1
 returns : tie.Need-returns
 returns c = search needs
 
--- src/main.rt:46:1
 same-length-2 : tie.Need-same-length-2
 same-length-2 c = search needs
 
--- src/main.rt:46:1
 returns-2 : tie.Need-returns-2
 returns-2 c = search needs
 
--- src/main.rt:46:1
 same-length-3 : tie.Need-same-length-3
 same-length-3 c = search needs
 
--- src/main.rt:46:1
 returns-3 : tie.Need-returns-3
 returns-3 c = search needs
 

@@ -1,51 +1,37 @@
-use denote.Ref.{now}
-use mathlib.Core.Path.{_≡_}
-use lib.ListN.{length}
-use mathlib.Core.Path.{refl, sym, _∙_}
-use borrow.Author.Tests.{eq-eqb, ne-eqb}
-use Rattle.rules.specs.Refusals.{trailerFault}
-use Rattle.rules.proofs.Chain.{inside, passes, stops}
 use Rattle.account.proofs.faults.trailer_fault.Statement.{statement}
 use Rattle.account.proofs.faults.trailer_fault.Tie as tie
-use Rattle.account.proofs.faults.trailer_fault.Reads as reads
-use Rattle.account.proofs.faults.trailer_fault.Lts as lts
-use Rattle.account.proofs.faults.wrong_distance.Reads as wrong-distance-reads
-use Rattle.account.proofs.faults.wrong_trailer.Reads as wrong-trailer-reads
-use Rattle.account.proofs.rows.position_count.Reads as position-count-reads
+use Rattle.rules.proofs.Chain.{inside, passes, stops}
+use Rattle.rules.specs.Refusals.{trailerFault}
+use borrow.Author.Tests.{eq-eqb, ne-eqb}
+use denote.Ref.{now}
+use lib.ListN.{length}
+use mathlib.Core.Path.{refl, sym, _∙_}
 
--- src/faults.rt:38:9
 returns : tie.Need-returns
 unfolding trailerFault
 returns c = stops _ _ _ _ refl (c .if1 .taken)
 
--- src/faults.rt:40:8
 wrong-trailer-requires : tie.Need-wrong-trailer-requires
 wrong-trailer-requires c κs = inside 12 65536 (length (now (c .before .before .args .file))) (c .if1 .left) .0
 
--- src/faults.rt:41:9
 returns-2 : tie.Need-returns-2
 unfolding trailerFault
 returns-2 c = passes _ _ _ _ _ refl (c .before .before .if1 .left) (stops _ _ _ _ (c .before .wrong-trailer .ensures) (c .if2 .taken))
 
--- src/faults.rt:43:8
 position-count-requires : tie.Need-position-count-requires
 position-count-requires c κs = inside 12 65536 (length (now (c .before .before .before .before .args .file))) (c .before .before .if1 .left) .0
 
--- src/faults.rt:44:9
 returns-3 : tie.Need-returns-3
 unfolding trailerFault
 returns-3 c = passes _ _ _ _ _ refl (c .before .before .before .before .if1 .left) (passes _ _ _ _ _ (c .before .before .before .wrong-trailer .ensures) (c .before .before .if2 .left) (stops _ _ _ _ refl (eq-eqb _ 0 (sym (c .before .position-count .ensures .0) ∙ c .if3 .taken))))
 
--- src/faults.rt:46:8
 wrong-distance-requires : tie.Need-wrong-distance-requires
 wrong-distance-requires c κs = inside 12 65536 (length (now (c .before .before .before .before .before .before .args .file))) (c .before .before .before .before .if1 .left) .0
 
--- src/faults.rt:47:9
 returns-4 : tie.Need-returns-4
 unfolding trailerFault
 returns-4 c = passes _ _ _ _ _ refl (c .before .before .before .before .before .before .if1 .left) (passes _ _ _ _ _ (c .before .before .before .before .before .wrong-trailer .ensures) (c .before .before .before .before .if2 .left) (passes _ _ _ _ _ refl (ne-eqb _ 0 (λ z. c .before .before .if3 .left (c .before .before .before .position-count .ensures .0 ∙ z))) (stops _ _ _ _ (c .before .wrong-distance .ensures) (c .if4 .taken))))
 
--- src/faults.rt:33:1
 returns-5 : tie.Need-returns-5
 unfolding trailerFault
 returns-5 c = passes _ _ _ _ _ refl (c .before .before .before .before .before .before .if1 .left) (passes _ _ _ _ _ (c .before .before .before .before .before .wrong-trailer .ensures) (c .before .before .before .before .if2 .left) (passes _ _ _ _ _ refl (ne-eqb _ 0 (λ z. c .before .before .if3 .left (c .before .before .before .position-count .ensures .0 ∙ z))) (passes _ _ _ _ _ (c .before .wrong-distance .ensures) (c .if4 .left) refl)))

@@ -1,57 +1,39 @@
-use mathlib.Core.Path.{sym, _∙_}
 use Rattle.account.proofs.RowReading.{row-read, row-unread, terms-series, terms-stop}
-use borrow.Author.Needs.{needs}
 use Rattle.account.proofs.reader.position_read.Statement.{statement}
 use Rattle.account.proofs.reader.position_read.Tie as tie
-use Rattle.account.proofs.reader.position_read.Reads as reads
-use Rattle.account.proofs.reader.position_read.Lts as lts
-use Rattle.account.proofs.faults.matched_fault.Reads as matched-fault-reads
-use Rattle.account.proofs.rows.position_row.Reads as position-row-reads
-use Rattle.account.proofs.rows.series_row.Reads as series-row-reads
-use Rattle.account.proofs.tests.wrong_terms.Reads as wrong-terms-reads
-use Rattle.account.proofs.values.position_of.Reads as position-of-reads
+use borrow.Author.Needs.{needs}
+use mathlib.Core.Path.{sym, _∙_}
 
--- src/reader.rt:17:9
 position-row-requires : tie.Need-position-row-requires
 position-row-requires c κs = search needs
 
--- src/reader.rt:18:8
 wrong-terms-requires : tie.Need-wrong-terms-requires
 wrong-terms-requires c κs = search needs
 
--- src/reader.rt:19:9
 returns : tie.Need-returns
 returns c = terms-stop _ _ _ _ (c .before .before .position-row .ensures) _ (c .before .wrong-terms .ensures) (c .if1 .taken)
 
--- src/reader.rt:21:38
 cast-series-row : tie.Need-cast-series-row
 cast-series-row c = search needs
 
--- src/reader.rt:21:9
 series-row-requires : tie.Need-series-row-requires
 series-row-requires c κs = (c .before .before .before .before .before .pre .0, terms-series _ (c .before .before .before .position-row .result) (sym (c .before .before .wrong-terms .ensures) ∙ c .before .if1 .left))
 
--- src/reader.rt:22:11
 matched-fault-requires : tie.Need-matched-fault-requires
 matched-fault-requires c κs = search needs
 
--- src/reader.rt:23:44
 enum-told : tie.Need-enum-told
 enum-told c = search needs
 
--- src/reader.rt:23:44
 position-of-requires : tie.Need-position-of-requires
 position-of-requires c κs = search needs
 
--- src/reader.rt:24:22
 enum-known-why : tie.Need-enum-known-why
 enum-known-why c = search needs
 
--- src/reader.rt:13:1
 returns-2 : tie.Need-returns-2
 returns-2 c = row-read _ _ _ _ (c .before .before .before .before .before .before .before .before .position-row .ensures) _ (c .before .before .before .before .before .before .before .wrong-terms .ensures) (c .before .before .before .before .before .before .if1 .left) _ (c .before .before .before .before .series-row .ensures) _ (c .before .before .before .matched-fault .ensures) _ (c .position-of .ensures) (c .before .enum-told .given .1)
 
--- src/reader.rt:13:1
 returns-3 : tie.Need-returns-3
 returns-3 c = row-unread _ _ _ _ (c .before .before .before .before .before .before .before .before .position-row .ensures) _ (c .before .before .before .before .before .before .before .wrong-terms .ensures) (c .before .before .before .before .before .before .if1 .left) _ (c .before .before .before .before .series-row .ensures) _ (c .before .before .before .matched-fault .ensures) _ (c .before .why .given .1)
 

@@ -1,16 +1,13 @@
-use denote.Ref.{now}
-use mathlib.Core.Path.{sym, _∙_}
-use Rattle.account.proofs.RowReading.{clean-next, position-stop, positions-clean, read-clean, read-found}
-use Rattle.rules.specs.Refusals.{positionFault}
-use Rattle.rules.proofs.Scan.{CleanTo, clean-none}
-use borrow.Author.Needs.{needs}
-use native.Mathlib.Omega.{arith}
 use Prim.Native.Nat.{_≤_, _-_}
+use Rattle.account.proofs.RowReading.{clean-next, position-stop, positions-clean, read-clean, read-found}
 use Rattle.account.proofs.reader.position_rows.Statement.{statement}
 use Rattle.account.proofs.reader.position_rows.Tie as tie
-use Rattle.account.proofs.reader.position_rows.Reads as reads
-use Rattle.account.proofs.reader.position_rows.Lts as lts
-use Rattle.account.proofs.reader.position_read.Reads as position-read-reads
+use Rattle.rules.proofs.Scan.{CleanTo, clean-none}
+use Rattle.rules.specs.Refusals.{positionFault}
+use borrow.Author.Needs.{needs}
+use denote.Ref.{now}
+use mathlib.Core.Path.{sym, _∙_}
+use native.Mathlib.Omega.{arith}
 
 abbrev Inv-loop : tie.InvT-loop
 Inv-loop file l p row₀ row = (row ≤ p) × CleanTo (positionFault file l) row
@@ -18,39 +15,30 @@ Inv-loop file l p row₀ row = (row ≤ p) × CleanTo (positionFault file l) row
 abbrev μ-loop : tie.MeasureT-loop
 μ-loop file l p row₀ row = p - row
 
--- src/reader.rt:35:5
 loop-holds : tie.Need-loop-holds Inv-loop μ-loop
 loop-holds c = (omega arith, clean-none _)
 
--- src/reader.rt:36:45
 position-read-requires : tie.Need-position-read-requires Inv-loop μ-loop
 position-read-requires c κs = (c .before .before .before .pre, omega arith)
 
--- src/reader.rt:36:38
 enum-known-why : tie.Need-enum-known-why Inv-loop μ-loop
 enum-known-why c = search needs
 
--- src/reader.rt:37:13
 enum-told : tie.Need-enum-told Inv-loop μ-loop
 enum-told c = search needs
 
--- src/reader.rt:37:13
 add-row : tie.Need-add-row Inv-loop μ-loop
 add-row c = omega arith
 
--- src/reader.rt:35:5
 loop-less : tie.Need-loop-less Inv-loop μ-loop
 loop-less c = omega arith
 
--- src/reader.rt:35:5
 loop-again : tie.Need-loop-again Inv-loop μ-loop
 loop-again c = (omega arith, clean-next _ _ (c .before .before .before .before .loop .inv .1) (read-clean _ _ _ _ (sym (c .enum-told .given .1) ∙ c .before .before .position-read .ensures)))
 
--- src/reader.rt:40:9
 returns : tie.Need-returns Inv-loop μ-loop
 returns c = position-stop (now (c .before .before .before .before .before .before .before .args .file)) (c .before .before .before .before .before .before .before .args .l) (c .before .before .before .before .before .loop .row) (c .before .why .given .0 .0) (c .before .before .before .before .loop-test .taken) (c .before .before .before .before .before .loop .inv .1) (read-found _ _ _ _ (sym (c .before .why .given .1) ∙ c .before .before .before .position-read .ensures))
 
--- src/reader.rt:29:1
 returns-2 : tie.Need-returns-2 Inv-loop μ-loop
 returns-2 c = positions-clean (now (c .before .before .before .args .file)) (c .before .before .before .args .l) (c .before .loop .row) (c .loop-test .left) (c .before .loop .inv .1)
 

@@ -1,50 +1,35 @@
-use Rattle.rules.specs.File.{layout}
-use borrow.Author.Needs.{needs}
 use Rattle.account.proofs.rows.layout_of.Statement.{statement}
 use Rattle.account.proofs.rows.layout_of.Tie as tie
-use Rattle.account.proofs.rows.layout_of.Reads as reads
-use Rattle.account.proofs.rows.layout_of.Lts as lts
-use Rattle.account.proofs.rows.distance_back.Reads as distance-back-reads
-use Rattle.account.proofs.rows.position_count.Reads as position-count-reads
-use Rattle.account.proofs.rows.series_count.Reads as series-count-reads
+use Rattle.rules.specs.File.{layout}
+use borrow.Author.Needs.{needs}
 
--- src/rows.rt:45:18
 series-count-requires : tie.Need-series-count-requires
 series-count-requires c κs = search needs
 
--- src/rows.rt:45:18
 cast-series : tie.Need-cast-series
 cast-series c = search needs
 
--- src/rows.rt:46:21
 position-count-requires : tie.Need-position-count-requires
 position-count-requires c κs = search needs
 
--- src/rows.rt:46:21
 cast-positions : tie.Need-cast-positions
 cast-positions c = search needs
 
--- src/rows.rt:47:31
 distance-back-requires : tie.Need-distance-back-requires
 distance-back-requires c κs = search needs
 
--- src/rows.rt:47:31
 cast-start : tie.Need-cast-start
 cast-start c = search needs
 
--- src/rows.rt:47:17
 sub-start : tie.Need-sub-start
 sub-start c = search needs
 
--- src/rows.rt:52:25
 mul-t6 : tie.Need-mul-t6
 mul-t6 c = search needs
 
--- src/rows.rt:52:17
 add-t7 : tie.Need-add-t7
 add-t7 c = search needs
 
--- src/rows.rt:41:1
 returns : tie.Need-returns
 unfolding layout
 returns c = rw (c .before .before .series-count .ensures .0, c .before .position-count .ensures .0, c .distance-back .ensures)

@@ -1,24 +1,17 @@
-use Rattle.rules.specs.File.{positionRow}
-use borrow.Author.Needs.{needs}
 use Rattle.account.proofs.rows.position_row.Statement.{statement}
 use Rattle.account.proofs.rows.position_row.Tie as tie
-use Rattle.account.proofs.rows.position_row.Reads as reads
-use Rattle.account.proofs.rows.position_row.Lts as lts
-use Rattle.account.proofs.rows.position_row_from.Reads as position-row-from-reads
+use Rattle.rules.specs.File.{positionRow}
+use borrow.Author.Needs.{needs}
 
--- src/rows.rt:103:40
 mul-position-row-from : tie.Need-mul-position-row-from
 mul-position-row-from c = search needs
 
--- src/rows.rt:103:29
 add-position-row-from : tie.Need-add-position-row-from
 add-position-row-from c = search needs
 
--- src/rows.rt:103:5
 position-row-from-requires : tie.Need-position-row-from-requires
 position-row-from-requires c κs = search needs
 
--- src/rows.rt:99:1
 returns : tie.Need-returns
 unfolding positionRow
 returns c = c .position-row-from .ensures

@@ -1,98 +1,70 @@
-use borrow.Author.Needs.{needs}
 use Rattle.account.proofs.rows.position_row_from.Statement.{statement}
 use Rattle.account.proofs.rows.position_row_from.Tie as tie
-use Rattle.account.proofs.rows.position_row_from.Reads as reads
-use Rattle.account.proofs.rows.position_row_from.Lts as lts
-use Rattle.account.proofs.bytes.u16_at.Reads as u16-at-reads
-use Rattle.account.proofs.bytes.u24_at.Reads as u24-at-reads
-use Rattle.account.proofs.bytes.u32_at.Reads as u32-at-reads
-use Rattle.account.proofs.bytes.u8_at.Reads as u8-at-reads
+use borrow.Author.Needs.{needs}
 
--- src/rows.rt:76:17
 u16-at-requires : tie.Need-u16-at-requires
 u16-at-requires c κs = search needs
 
--- src/rows.rt:77:27
 add-u8-at : tie.Need-add-u8-at
 add-u8-at c = search needs
 
--- src/rows.rt:77:15
 u8-at-requires : tie.Need-u8-at-requires
 u8-at-requires c κs = search needs
 
--- src/rows.rt:78:27
 add-u8-at-2 : tie.Need-add-u8-at-2
 add-u8-at-2 c = search needs
 
--- src/rows.rt:78:15
 u8-at-requires-2 : tie.Need-u8-at-requires-2
 u8-at-requires-2 c κs = search needs
 
--- src/rows.rt:79:28
 add-u8-at-3 : tie.Need-add-u8-at-3
 add-u8-at-3 c = search needs
 
--- src/rows.rt:79:16
 u8-at-requires-3 : tie.Need-u8-at-requires-3
 u8-at-requires-3 c κs = search needs
 
--- src/rows.rt:80:29
 add-u24-at : tie.Need-add-u24-at
 add-u24-at c = search needs
 
--- src/rows.rt:80:16
 u24-at-requires : tie.Need-u24-at-requires
 u24-at-requires c κs = search needs
 
--- src/rows.rt:81:25
 add-u32-at : tie.Need-add-u32-at
 add-u32-at c = search needs
 
--- src/rows.rt:81:12
 u32-at-requires : tie.Need-u32-at-requires
 u32-at-requires c κs = search needs
 
--- src/rows.rt:82:26
 add-u32-at-2 : tie.Need-add-u32-at-2
 add-u32-at-2 c = search needs
 
--- src/rows.rt:82:13
 u32-at-requires-2 : tie.Need-u32-at-requires-2
 u32-at-requires-2 c κs = search needs
 
--- src/rows.rt:83:26
 add-u32-at-3 : tie.Need-add-u32-at-3
 add-u32-at-3 c = search needs
 
--- src/rows.rt:83:13
 u32-at-requires-3 : tie.Need-u32-at-requires-3
 u32-at-requires-3 c κs = search needs
 
--- src/rows.rt:84:29
 add-u32-at-4 : tie.Need-add-u32-at-4
 add-u32-at-4 c = search needs
 
--- src/rows.rt:84:16
 u32-at-requires-4 : tie.Need-u32-at-requires-4
 u32-at-requires-4 c κs = search needs
 
--- src/rows.rt:85:27
 add-u32-at-5 : tie.Need-add-u32-at-5
 add-u32-at-5 c = search needs
 
--- src/rows.rt:85:14
 u32-at-requires-5 : tie.Need-u32-at-requires-5
 u32-at-requires-5 c κs = search needs
 
--- src/rows.rt:86:31
 add-u32-at-6 : tie.Need-add-u32-at-6
 add-u32-at-6 c = search needs
 
--- src/rows.rt:86:18
 u32-at-requires-6 : tie.Need-u32-at-requires-6
 u32-at-requires-6 c κs = search needs
 
--- src/rows.rt:71:1
 returns : tie.Need-returns
 returns c = rw (c .before .before .before .before .before .before .before .before .before .before .u16-at .ensures .0, c .before .before .before .before .before .before .before .before .before .u8-at .ensures .0, c .before .before .before .before .before .before .before .before .u8-at2 .ensures .0, c .before .before .before .before .before .before .before .u8-at3 .ensures .0, c .before .before .before .before .before .before .u24-at .ensures, c .before .before .before .before .before .u32-at .ensures, c .before .before .before .before .u32-at2 .ensures, c .before .before .before .u32-at3 .ensures, c .before .before .u32-at4 .ensures, c .before .u32-at5 .ensures, c .u32-at6 .ensures)
 

@@ -1,26 +1,19 @@
-use borrow.Author.Tests.{ne-eqb}
 use Rattle.account.proofs.values.barrier_of.Statement.{statement}
 use Rattle.account.proofs.values.barrier_of.Tie as tie
-use Rattle.account.proofs.values.barrier_of.Reads as reads
-use Rattle.account.proofs.values.barrier_of.Lts as lts
+use borrow.Author.Tests.{ne-eqb}
 
--- src/values.rt:24:1
 returns : tie.Need-returns
 returns c = rw (c .match .keys1)
 
--- src/values.rt:24:1
 returns-2 : tie.Need-returns-2
 returns-2 c = rw (c .match .keys2)
 
--- src/values.rt:24:1
 returns-3 : tie.Need-returns-3
 returns-3 c = rw (c .match .keys3)
 
--- src/values.rt:24:1
 returns-4 : tie.Need-returns-4
 returns-4 c = rw (c .match .keys4)
 
--- src/values.rt:24:1
 returns-5 : tie.Need-returns-5
 returns-5 c = simp (ne-eqb _ 1 (c .match .rest .0 .0 .0 .1), ne-eqb _ 2 (c .match .rest .0 .0 .1), ne-eqb _ 3 (c .match .rest .0 .1), ne-eqb _ 4 (c .match .rest .1))
 

@@ -1,14 +1,10 @@
-use borrow.Author.Tests.{ne-eqb}
 use Rattle.account.proofs.values.option_of.Statement.{statement}
 use Rattle.account.proofs.values.option_of.Tie as tie
-use Rattle.account.proofs.values.option_of.Reads as reads
-use Rattle.account.proofs.values.option_of.Lts as lts
+use borrow.Author.Tests.{ne-eqb}
 
--- src/values.rt:6:1
 returns : tie.Need-returns
 returns c = rw (c .match .keys1)
 
--- src/values.rt:6:1
 returns-2 : tie.Need-returns-2
 returns-2 c = simp (ne-eqb _ 0 (c .match .rest .1))
 

@@ -1,37 +1,27 @@
-use denote.Ref.{now}
-use Rattle.position.proofs.RowsFit.{answer-read}
 use Rattle.account.proofs.KnownRows.{known}
-use mathlib.Core.Path.{sym, _∙_}
-use native.Mathlib.Omega.{arith}
-use borrow.Author.Needs.{needs}
+use Rattle.position.proofs.RowsFit.{answer-read}
 use Rattle.position.proofs.amount.amount_for_row.Statement.{statement}
 use Rattle.position.proofs.amount.amount_for_row.Tie as tie
-use Rattle.position.proofs.amount.amount_for_row.Reads as reads
-use Rattle.position.proofs.amount.amount_for_row.Lts as lts
-use Rattle.account.proofs.reader.read_file.Reads as read-file-reads
-use Rattle.position.proofs.amount.accepted_amount.Reads as accepted-amount-reads
+use borrow.Author.Needs.{needs}
+use denote.Ref.{now}
+use mathlib.Core.Path.{sym, _∙_}
+use native.Mathlib.Omega.{arith}
 
--- src/amount.rt:60:11
 read-file-requires : tie.Need-read-file-requires
 read-file-requires c κs = search needs
 
--- src/amount.rt:61:28
 enum-known-l : tie.Need-enum-known-l
 enum-known-l c = search needs
 
--- src/amount.rt:61:34
 accepted-amount-requires : tie.Need-accepted-amount-requires
 accepted-amount-requires c κs = known _ _ (sym (c .before .before .before .read-file .ensures) ∙ c .before .l .given .1)
 
--- src/amount.rt:62:27
 enum-known-why : tie.Need-enum-known-why
 enum-known-why c = search needs
 
--- src/amount.rt:57:1
 returns : tie.Need-returns
 returns c = (c .accepted-amount .ensures .0 ∙ sym (answer-read (now (c .before .before .before .before .before .before .args .file)) (c .before .before .before .before .before .before .args .row) _ (sym (c .before .before .before .before .read-file .ensures) ∙ c .before .before .l .given .1)), c .accepted-amount .ensures .1)
 
--- src/amount.rt:57:1
 returns-2 : tie.Need-returns-2
 returns-2 c = (sym (answer-read (now (c .before .before .before .before .before .args .file)) (c .before .before .before .before .before .args .row) _ (sym (c .before .before .before .read-file .ensures) ∙ c .before .why .given .1)), omega arith)
 

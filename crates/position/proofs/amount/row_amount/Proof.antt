@@ -1,33 +1,24 @@
-use denote.Ref.{now}
-use Rattle.rules.specs.declared.Position.{Position}
-use Rattle.rules.specs.File.{accountOf}
-use Rattle.position.specs.Fits.{RowFits}
-use Rattle.position.proofs.RowsFit.{amount-at-row, at-row, row-fits}
-use Rattle.account.proofs.KnownRows.{series-below}
 use Prim.Native.Nat.{_<_}
-use mathlib.Core.Path.{sym, subst, _∙_}
-use borrow.Author.Needs.{needs}
+use Rattle.account.proofs.KnownRows.{series-below}
+use Rattle.position.proofs.RowsFit.{amount-at-row, at-row, row-fits}
 use Rattle.position.proofs.amount.row_amount.Statement.{statement}
 use Rattle.position.proofs.amount.row_amount.Tie as tie
-use Rattle.position.proofs.amount.row_amount.Reads as reads
-use Rattle.position.proofs.amount.row_amount.Lts as lts
-use Rattle.account.proofs.lookup.position_at.Reads as position-at-reads
-use Rattle.account.proofs.lookup.series_of_position.Reads as series-of-position-reads
-use Rattle.position.proofs.amount.amount_by_side.Reads as amount-by-side-reads
+use Rattle.position.specs.Fits.{RowFits}
+use Rattle.rules.specs.File.{accountOf}
+use Rattle.rules.specs.declared.Position.{Position}
+use borrow.Author.Needs.{needs}
+use denote.Ref.{now}
+use mathlib.Core.Path.{sym, subst, _∙_}
 
--- src/amount.rt:40:9
 position-at-requires : tie.Need-position-at-requires
 position-at-requires c κs = search needs
 
--- src/amount.rt:41:9
 series-of-position-requires : tie.Need-series-of-position-requires
 series-of-position-requires c κs = let a = c .before .before .args in (c .before .before .pre .0, subst (λ (p : Position). p .series < a .l .series) (sym (c .position-at .ensures)) (series-below (now (a .file)) (a .l) (c .before .before .pre .0) (a .row) (c .before .before .pre .1)))
 
--- src/amount.rt:42:5
 amount-by-side-requires : tie.Need-amount-by-side-requires
 amount-by-side-requires c κs = let a = c .before .before .before .args in let b = now (a .file) in at-row RowFits (accountOf b (a .l)) (a .row) _ _ (c .before .position-at .ensures) (c .series-of-position .ensures) (row-fits b (a .l) (c .before .before .before .pre .0) (a .row) (c .before .before .before .pre .1))
 
--- src/amount.rt:36:1
 returns : tie.Need-returns
 returns c = let a = c .before .before .before .before .args in (c .amount-by-side .ensures .0 ∙ amount-at-row (accountOf (now (a .file)) (a .l)) (a .row) _ _ (c .before .before .position-at .ensures) (c .before .series-of-position .ensures), c .amount-by-side .ensures .1)
 

@@ -1,26 +1,17 @@
 use Rattle.rules.specs.OnePosition.{signedAnswer}
-use mir.Syntax.{w64}
-use mir.Facts.{toZ-ofZ}
-use mathlib.Core.Path.{_∙_, ap}
-use borrow.Author.Needs.{needs}
-use Rattle.serpentgleam.proofs.position_amount.serpentgleam_position_amount.Statement.{
-  statement,
-}
+use Rattle.serpentgleam.proofs.position_amount.serpentgleam_position_amount.Statement.{statement}
 use Rattle.serpentgleam.proofs.position_amount.serpentgleam_position_amount.Tie as tie
-use Rattle.serpentgleam.proofs.position_amount.serpentgleam_position_amount.Reads as reads
-use Rattle.serpentgleam.proofs.position_amount.serpentgleam_position_amount.Lts as lts
-use Rattle.position.proofs.amount.amount_for_row.Reads as amount-for-row-reads
-use Rattle.serpentgleam.proofs.position_amount.signed.Reads as signed-reads
+use borrow.Author.Needs.{needs}
+use mathlib.Core.Path.{_∙_, ap}
+use mir.Facts.{toZ-ofZ}
+use mir.Syntax.{w64}
 
--- src/position_amount.rt:27:12
 amount-for-row-requires : tie.Need-amount-for-row-requires
 amount-for-row-requires c κs = search needs
 
--- src/position_amount.rt:27:5
 signed-requires : tie.Need-signed-requires
 signed-requires c κs = search needs
 
--- src/position_amount.rt:23:1
 returns : tie.Need-returns
 returns c = toZ-ofZ {w = w64} {z = c .signed .result} (record { sfits = c .signed .ok }) ∙ c .signed .ensures ∙ ap signedAnswer (c .before .amount-for-row .ensures .0)
 

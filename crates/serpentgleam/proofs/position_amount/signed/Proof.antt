@@ -1,48 +1,37 @@
-use Rattle.serpentgleam.proofs.Sign.{to-pos, pos-fits, from-zero, neg-fits}
-use Rattle.rules.specs.declared.AmountAnswer.{AmountAnswer}
-use Rattle.rules.specs.OnePosition.{signedAnswer}
-use Rattle.position.specs.Fits.{amountIn}
-use mir.Facts.{toZ-ofZ}
-use lib.IntN.{negℤ, pos}
-use native.Mathlib.Omega.{arith}
 use Prim.Native.Nat.{ℕ, _<_, _≤_, _^_}
-use mathlib.Core.Path.{_≡_, sym, _∙_, ap, subst}
-use borrow.Author.Needs.{needs}
+use Rattle.position.specs.Fits.{amountIn}
+use Rattle.rules.specs.OnePosition.{signedAnswer}
+use Rattle.rules.specs.declared.AmountAnswer.{AmountAnswer}
+use Rattle.serpentgleam.proofs.Sign.{to-pos, pos-fits, from-zero, neg-fits}
 use Rattle.serpentgleam.proofs.position_amount.signed.Statement.{statement}
 use Rattle.serpentgleam.proofs.position_amount.signed.Tie as tie
-use Rattle.serpentgleam.proofs.position_amount.signed.Reads as reads
-use Rattle.serpentgleam.proofs.position_amount.signed.Lts as lts
-use Rattle.account.proofs.values.refusal_number.Reads as refusal-number-reads
+use borrow.Author.Needs.{needs}
+use lib.IntN.{negℤ, pos}
+use mathlib.Core.Path.{sym, _∙_, ap, subst}
+use mir.Facts.{toZ-ofZ}
+use native.Mathlib.Omega.{arith}
 
--- src/position_amount.rt:16:30
 enum-known-answer : tie.Need-enum-known-answer
 enum-known-answer c = search needs
 
--- src/position_amount.rt:16:36
 cast-result : tie.Need-cast-result
 cast-result c = let n = c .before .answer .given .0 .0 in let h : n ≤ 10_000_000_000_000_000 = subst (λ (x : AmountAnswer). amountIn x ≤ 10_000_000_000_000_000) (c .before .answer .given .1) (c .before .before .before .pre) in pos-fits n (omega arith)
 
--- src/position_amount.rt:17:32
 enum-known-answer-2 : tie.Need-enum-known-answer-2
 enum-known-answer-2 c = search needs
 
--- src/position_amount.rt:17:45
 refusal-number-requires : tie.Need-refusal-number-requires
 refusal-number-requires c κs = search needs
 
--- src/position_amount.rt:17:45
 cast-result-2 : tie.Need-cast-result-2
 cast-result-2 c = search needs
 
--- src/position_amount.rt:17:43
 sub-result : tie.Need-sub-result
 sub-result c = neg-fits (c .refusal-number .result) (omega (arith, c .refusal-number .ok))
 
--- src/position_amount.rt:11:1
 returns : tie.Need-returns
 returns c = let n = c .before .answer .given .0 .0 in let h : n ≤ 10_000_000_000_000_000 = subst (λ (x : AmountAnswer). amountIn x ≤ 10_000_000_000_000_000) (c .before .answer .given .1) (c .before .before .before .pre) in to-pos n (omega arith) ∙ sym (ap signedAnswer (c .before .answer .given .1))
 
--- src/position_amount.rt:11:1
 returns-2 : tie.Need-returns-2
 returns-2 c = let n = c .refusal-number .result in let small : n < 2 ^ 63 = omega (arith, c .refusal-number .ok) in toZ-ofZ (neg-fits n small) ∙ from-zero n small ∙ ap (λ (k : ℕ). negℤ (pos k)) (c .refusal-number .ensures) ∙ sym (ap signedAnswer (c .before .before .answer2 .given .1))
 

@@ -1,6 +1,6 @@
-use borrow.Author.Needs.{needs}
 use Rattle.spreads.proofs.out.out_loss.Statement.{statement}
 use Rattle.spreads.proofs.out.out_loss.Tie as tie
+use borrow.Author.Needs.{needs}
 
 enum-told : tie.Need-enum-told
 enum-told c = search needs

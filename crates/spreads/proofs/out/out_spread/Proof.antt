@@ -1,6 +1,6 @@
-use borrow.Author.Needs.{needs}
 use Rattle.spreads.proofs.out.out_spread.Statement.{statement}
 use Rattle.spreads.proofs.out.out_spread.Tie as tie
+use borrow.Author.Needs.{needs}
 
 returns : tie.Need-returns
 returns c = search needs

@@ -1,6 +1,6 @@
-use borrow.Author.Needs.{needs}
 use Rattle.spreads.proofs.out.rebate_loss.Statement.{statement}
 use Rattle.spreads.proofs.out.rebate_loss.Tie as tie
+use borrow.Author.Needs.{needs}
 
 rebate-of-requires : tie.Need-rebate-of-requires
 rebate-of-requires c κs = search needs

@@ -1,6 +1,6 @@
-use borrow.Author.Needs.{needs}
 use Rattle.spreads.proofs.out.up_out_spread.Statement.{statement}
 use Rattle.spreads.proofs.out.up_out_spread.Tie as tie
+use borrow.Author.Needs.{needs}
 
 fine-units-requires : tie.Need-fine-units-requires
 fine-units-requires c κs = search needs

@@ -1,6 +1,6 @@
-use borrow.Author.Needs.{needs}
 use Rattle.spreads.proofs.pair.may_meet.Statement.{statement}
 use Rattle.spreads.proofs.pair.may_meet.Tie as tie
+use borrow.Author.Needs.{needs}
 
 is-written-requires : tie.Need-is-written-requires
 is-written-requires c κs = search needs

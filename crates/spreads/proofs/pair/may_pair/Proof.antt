@@ -1,9 +1,9 @@
-use Rattle.spreads.proofs.Rows.{may-as, may-not, read-series-below}
 use Rattle.rules.specs.File.{accountOf}
-use denote.Ref.{now}
-use borrow.Author.Needs.{needs}
+use Rattle.spreads.proofs.Rows.{may-as, may-not, read-series-below}
 use Rattle.spreads.proofs.pair.may_pair.Statement.{statement}
 use Rattle.spreads.proofs.pair.may_pair.Tie as tie
+use borrow.Author.Needs.{needs}
+use denote.Ref.{now}
 
 position-at-requires : tie.Need-position-at-requires
 position-at-requires c κs = search needs

@@ -1,12 +1,12 @@
-use mathlib.Core.Path.{ap, _∙_}
-use Rattle.spreads.proofs.Rows.{read-series-below, spread-at}
-use Rattle.rules.specs.declared.Spread.{Spread}
-use Rattle.rules.specs.Lines.{spreadUnit}
 use Rattle.rules.specs.File.{accountOf}
-use denote.Ref.{now}
-use borrow.Author.Needs.{needs}
+use Rattle.rules.specs.Lines.{spreadUnit}
+use Rattle.rules.specs.declared.Spread.{Spread}
+use Rattle.spreads.proofs.Rows.{read-series-below, spread-at}
 use Rattle.spreads.proofs.pair.spread_unit.Statement.{statement}
 use Rattle.spreads.proofs.pair.spread_unit.Tie as tie
+use borrow.Author.Needs.{needs}
+use denote.Ref.{now}
+use mathlib.Core.Path.{ap, _∙_}
 
 position-at-requires : tie.Need-position-at-requires
 position-at-requires c κs = search needs

@@ -1,7 +1,7 @@
-use borrow.Author.Tests.{le-leb, lt-leb}
-use borrow.Author.Needs.{needs}
 use Rattle.spreads.proofs.spread.both_down_out.Statement.{statement}
 use Rattle.spreads.proofs.spread.both_down_out.Tie as tie
+use borrow.Author.Needs.{needs}
+use borrow.Author.Tests.{le-leb, lt-leb}
 
 down-out-spread-requires : tie.Need-down-out-spread-requires
 down-out-spread-requires c κs = search needs

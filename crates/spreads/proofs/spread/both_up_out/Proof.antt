@@ -1,7 +1,7 @@
-use borrow.Author.Tests.{le-leb, lt-leb}
-use borrow.Author.Needs.{needs}
 use Rattle.spreads.proofs.spread.both_up_out.Statement.{statement}
 use Rattle.spreads.proofs.spread.both_up_out.Tie as tie
+use borrow.Author.Needs.{needs}
+use borrow.Author.Tests.{le-leb, lt-leb}
 
 up-out-spread-requires : tie.Need-up-out-spread-requires
 up-out-spread-requires c κs = search needs

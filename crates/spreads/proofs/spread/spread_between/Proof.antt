@@ -1,10 +1,10 @@
-use borrow.Author.Tests.{eq-eqb, ne-eqb}
-use mathlib.Core.Path.{refl, sym, _∙_}
 use Rattle.rules.specs.Spreads.{kindOf}
 use Rattle.spreads.proofs.Picks.{pick-false, pick-true}
-use borrow.Author.Needs.{needs}
 use Rattle.spreads.proofs.spread.spread_between.Statement.{statement}
 use Rattle.spreads.proofs.spread.spread_between.Tie as tie
+use borrow.Author.Needs.{needs}
+use borrow.Author.Tests.{eq-eqb, ne-eqb}
+use mathlib.Core.Path.{refl, sym, _∙_}
 
 same-terms-requires : tie.Need-same-terms-requires
 same-terms-requires c κs = search needs

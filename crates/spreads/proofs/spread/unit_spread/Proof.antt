@@ -1,10 +1,10 @@
-use mathlib.Core.Path.{ap, _∙_}
-use Rattle.rules.specs.declared.Position.{Position}
-use Rattle.rules.specs.Spreads.{spreadBetween, unitSpread}
 use Rattle.rules.specs.OnePosition.{normal}
-use borrow.Author.Needs.{needs}
+use Rattle.rules.specs.Spreads.{spreadBetween, unitSpread}
+use Rattle.rules.specs.declared.Position.{Position}
 use Rattle.spreads.proofs.spread.unit_spread.Statement.{statement}
 use Rattle.spreads.proofs.spread.unit_spread.Tie as tie
+use borrow.Author.Needs.{needs}
+use mathlib.Core.Path.{ap, _∙_}
 
 normalised-requires : tie.Need-normalised-requires
 normalised-requires c κs = search needs

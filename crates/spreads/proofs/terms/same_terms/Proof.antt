@@ -1,6 +1,6 @@
-use borrow.Author.Needs.{needs}
 use Rattle.spreads.proofs.terms.same_terms.Statement.{statement}
 use Rattle.spreads.proofs.terms.same_terms.Tie as tie
+use borrow.Author.Needs.{needs}
 
 same-limiter-requires : tie.Need-same-limiter-requires
 same-limiter-requires c κs = search needs
