@@ -1,0 +1,142 @@
+//! The account as the rules see it.
+//!
+//! Prices, strikes, limiters, barriers, rebates and premiums are whole ticks.
+//! Factors are whole millionths. A fine unit is a millionth of a tick. Money
+//! is whole centavos. All of them are `i128` here, so that no sum or product
+//! in this package can overflow.
+
+pub const MILLION: i128 = 1_000_000;
+
+/// Ticks to fine units: done before ticks meet fine units.
+pub fn fine(ticks: i128) -> i128 {
+    ticks * MILLION
+}
+
+#[derive(Clone, Copy, Debug, PartialEq, Eq)]
+pub enum OptionType {
+    Call,
+    Put,
+}
+
+#[derive(Clone, Copy, Debug, PartialEq, Eq)]
+pub enum Side {
+    Held,
+    Written,
+}
+
+/// One barrier a position, with its price in ticks.
+#[derive(Clone, Copy, Debug, PartialEq, Eq)]
+pub enum Barrier {
+    None,
+    UpAndIn(i128),
+    DownAndIn(i128),
+    UpAndOut(i128),
+    DownAndOut(i128),
+}
+
+/// A limiter at 0 (possible for a put) is not the same as no limiter.
+#[derive(Clone, Copy, Debug, PartialEq, Eq)]
+pub enum Limiter {
+    Absent,
+    At(i128),
+}
+
+/// Positions of one series share underlying, type, expiry and way of
+/// settlement.
+#[derive(Clone, Copy, Debug, PartialEq, Eq)]
+pub struct Series {
+    /// PV, today's price, in ticks.
+    pub pv: i128,
+    /// High stress factor, in millionths.
+    pub fa: i128,
+    /// Low stress factor, in millionths.
+    pub fb: i128,
+    /// Minimum factor, in millionths.
+    pub f3: i128,
+    /// Centavos per tick per contract.
+    pub m: i128,
+    pub option_type: OptionType,
+}
+
+impl Series {
+    /// H = PV × fa: ticks by millionths are fine units, exact.
+    pub fn high(&self) -> i128 {
+        self.pv * self.fa
+    }
+
+    /// L = PV × fb, in fine units.
+    pub fn low(&self) -> i128 {
+        self.pv * self.fb
+    }
+
+    /// MM = f3 × PV, in fine units.
+    pub fn minimum_margin(&self) -> i128 {
+        self.f3 * self.pv
+    }
+}
+
+/// A position row as it stands in the file.
+#[derive(Clone, Copy, Debug, PartialEq, Eq)]
+pub struct Position {
+    pub series: usize,
+    pub side: Side,
+    pub barrier: Barrier,
+    pub limiter: Limiter,
+    /// Flag 1.
+    pub already_knocked_in: bool,
+    /// Flag 4.
+    pub european: bool,
+    /// Flag 8.
+    pub opened_before_annex: bool,
+    /// Q, contracts.
+    pub quantity: i128,
+    /// PE.
+    pub strike: i128,
+    /// REB.
+    pub rebate: i128,
+    /// Unsettled premium.
+    pub premium: i128,
+}
+
+/// What margin, spread and payment depend on. Two positions of a series are
+/// the same option exactly where their terms are equal.
+#[derive(Clone, Copy, Debug, PartialEq, Eq)]
+pub struct Terms {
+    pub strike: i128,
+    pub limiter: Limiter,
+    pub barrier: Barrier,
+    pub rebate: i128,
+}
+
+impl Position {
+    /// Flag 1 makes the position one without barrier and with REB 0.
+    pub fn terms(&self) -> Terms {
+        if self.already_knocked_in {
+            Terms { strike: self.strike, limiter: self.limiter, barrier: Barrier::None, rebate: 0 }
+        } else {
+            Terms {
+                strike: self.strike,
+                limiter: self.limiter,
+                barrier: self.barrier,
+                rebate: self.rebate,
+            }
+        }
+    }
+
+    /// May this row stand in a pair at all? Asked of each row by itself.
+    pub fn european_or_before_annex(&self) -> bool {
+        self.european || self.opened_before_annex
+    }
+}
+
+#[derive(Clone, Debug, PartialEq, Eq)]
+pub struct Account {
+    pub series: Vec<Series>,
+    pub positions: Vec<Position>,
+}
+
+impl Account {
+    pub fn series_of(&self, row: usize) -> &Series {
+        &self.series[self.positions[row].series]
+    }
+}

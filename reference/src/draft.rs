@@ -1,0 +1,189 @@
+//! Files from fields. A draft may be wrong in any field: nothing is checked
+//! here, so that faulty files can be made as well as good ones.
+
+#[derive(Clone, Copy, Debug, PartialEq, Eq)]
+pub struct SeriesDraft {
+    pub pv: u32,
+    pub fa: u32,
+    pub fb: u32,
+    pub f3: u32,
+    pub m: u32,
+    pub type_byte: u8,
+    pub spare: [u8; 3],
+}
+
+#[derive(Clone, Copy, Debug, PartialEq, Eq)]
+pub struct PositionDraft {
+    pub series: u16,
+    pub side: u8,
+    pub kind: u8,
+    pub flags: u8,
+    pub spare: [u8; 3],
+    pub quantity: u32,
+    pub strike: u32,
+    pub limiter: u32,
+    pub barrier: u32,
+    pub rebate: u32,
+    pub premium: u32,
+}
+
+/// Counts and distance are taken from the rows unless given.
+#[derive(Clone, Debug, Default, PartialEq, Eq)]
+pub struct Draft {
+    pub cover: Vec<u8>,
+    pub series: Vec<SeriesDraft>,
+    pub positions: Vec<PositionDraft>,
+    pub stated_s: Option<u16>,
+    pub stated_p: Option<u16>,
+    pub stated_distance: Option<u32>,
+    pub last_four: [u8; 4],
+}
+
+pub const CALL: u8 = 0;
+pub const PUT: u8 = 1;
+pub const HELD: u8 = 0;
+pub const WRITTEN: u8 = 1;
+pub const NO_BARRIER: u8 = 0;
+pub const UP_AND_IN: u8 = 1;
+pub const DOWN_AND_IN: u8 = 2;
+pub const UP_AND_OUT: u8 = 3;
+pub const DOWN_AND_OUT: u8 = 4;
+
+impl SeriesDraft {
+    /// The series of the checked values: PV 3000, H 3600, L 2400, MM 150, M 5.
+    pub fn checked(type_byte: u8) -> SeriesDraft {
+        SeriesDraft {
+            pv: 3000,
+            fa: 1_200_000,
+            fb: 800_000,
+            f3: 50_000,
+            m: 5,
+            type_byte,
+            spare: [0; 3],
+        }
+    }
+
+    pub fn bytes(&self) -> Vec<u8> {
+        let mut bytes = Vec::new();
+        for field in [self.pv, self.fa, self.fb, self.f3, self.m] {
+            bytes.extend(field.to_le_bytes());
+        }
+        bytes.push(self.type_byte);
+        bytes.extend(self.spare);
+        bytes
+    }
+}
+
+impl PositionDraft {
+    /// A European row without limiter, barrier, rebate or premium.
+    pub fn plain(series: u16, side: u8, strike: u32, quantity: u32) -> PositionDraft {
+        PositionDraft {
+            series,
+            side,
+            kind: NO_BARRIER,
+            flags: crate::reader::FLAG_EUROPEAN,
+            spare: [0; 3],
+            quantity,
+            strike,
+            limiter: 0,
+            barrier: 0,
+            rebate: 0,
+            premium: 0,
+        }
+    }
+
+    pub fn with_barrier(mut self, kind: u8, price: u32, rebate: u32) -> PositionDraft {
+        self.kind = kind;
+        self.barrier = price;
+        self.rebate = rebate;
+        self
+    }
+
+    pub fn with_limiter(mut self, price: u32) -> PositionDraft {
+        self.flags |= crate::reader::FLAG_LIMITER;
+        self.limiter = price;
+        self
+    }
+
+    pub fn with_premium(mut self, premium: u32) -> PositionDraft {
+        self.premium = premium;
+        self
+    }
+
+    /// Already knocked in.
+    pub fn knocked_in(mut self) -> PositionDraft {
+        self.flags |= crate::reader::FLAG_KNOCKED_IN;
+        self
+    }
+
+    /// The limiter and knocked-in bits stay, the other two are set as given.
+    pub fn style(mut self, european: bool, before_annex: bool) -> PositionDraft {
+        self.flags &= !(crate::reader::FLAG_EUROPEAN | crate::reader::FLAG_BEFORE_ANNEX);
+        if european {
+            self.flags |= crate::reader::FLAG_EUROPEAN;
+        }
+        if before_annex {
+            self.flags |= crate::reader::FLAG_BEFORE_ANNEX;
+        }
+        self
+    }
+
+    pub fn bytes(&self) -> Vec<u8> {
+        let mut bytes = Vec::new();
+        bytes.extend(self.series.to_le_bytes());
+        bytes.push(self.side);
+        bytes.push(self.kind);
+        bytes.push(self.flags);
+        bytes.extend(self.spare);
+        for field in
+            [self.quantity, self.strike, self.limiter, self.barrier, self.rebate, self.premium]
+        {
+            bytes.extend(field.to_le_bytes());
+        }
+        bytes
+    }
+}
+
+impl Draft {
+    pub fn new(series: Vec<SeriesDraft>, positions: Vec<PositionDraft>) -> Draft {
+        Draft { series, positions, ..Draft::default() }
+    }
+
+    pub fn trailer(&self) -> Vec<u8> {
+        let s = self.stated_s.unwrap_or(self.series.len() as u16);
+        let p = self.stated_p.unwrap_or(self.positions.len() as u16);
+        let distance = self
+            .stated_distance
+            .unwrap_or(12 + 24 * self.series.len() as u32 + 32 * self.positions.len() as u32);
+        let mut bytes = Vec::new();
+        bytes.extend(s.to_le_bytes());
+        bytes.extend(p.to_le_bytes());
+        bytes.extend(distance.to_le_bytes());
+        bytes.extend(self.last_four);
+        bytes
+    }
+
+    pub fn bytes(&self) -> Vec<u8> {
+        let mut bytes = self.cover.clone();
+        for series in &self.series {
+            bytes.extend(series.bytes());
+        }
+        for position in &self.positions {
+            bytes.extend(position.bytes());
+        }
+        bytes.extend(self.trailer());
+        bytes
+    }
+}
+
+/// The account of the document's example output.
+pub fn example() -> Draft {
+    Draft::new(
+        vec![SeriesDraft::checked(CALL)],
+        vec![
+            PositionDraft::plain(0, WRITTEN, 3100, 10),
+            PositionDraft::plain(0, HELD, 3250, 4),
+            PositionDraft::plain(0, HELD, 3000, 3).with_premium(20),
+        ],
+    )
+}

@@ -1,0 +1,34 @@
+//! Reference for flexible option margin by circular 081/2003.
+//!
+//! An executable specification: every rule of the scope document stands here
+//! once, in the document's own order and names, with plain algorithms and wide
+//! whole numbers. It decides expected outputs; it is not meant to be fast.
+//!
+//! Reading order:
+//!
+//! 1. [`account`]: series, positions, fine units
+//! 2. [`reader`]: bytes to account, or refusal
+//! 3. [`position`]: unit margin and amount of one position
+//! 4. [`spread`]: unit spread margin of a pair
+//! 5. [`pairing`]: the repeated choice of pairs, lines and total
+//! 6. [`output`]: what the margin program prints
+//! 7. [`paths`]: paths and payments, as the document defines them
+//!
+//! Then the tools: [`random`] (numbers from a seed), [`draft`] (files from
+//! fields), [`sample`] (random accounts), [`brute_force`] (checks the four
+//! points of the document's section on paths) and [`vectors`] (test files with
+//! their expected output).
+
+pub mod account;
+pub mod output;
+pub mod pairing;
+pub mod paths;
+pub mod position;
+pub mod reader;
+pub mod spread;
+
+pub mod brute_force;
+pub mod draft;
+pub mod random;
+pub mod sample;
+pub mod vectors;

@@ -1,0 +1,88 @@
+//! Unit spread margin of one held and one written position (annex section 5).
+
+use std::cmp::{max, min};
+
+use crate::account::{fine, Barrier, Limiter, OptionType, Series, Terms};
+
+/// The unit spread margin in fine units, or nothing where the two do not pair.
+/// Terms are those after flag 1 is applied.
+pub fn unit_spread_margin(series: &Series, held: &Terms, written: &Terms) -> Option<i128> {
+    // a) The same option.
+    if held == written {
+        return Some(0);
+    }
+    // The circular counts limiting devices as barriers.
+    if held.limiter != Limiter::Absent || written.limiter != Limiter::Absent {
+        return None;
+    }
+    match (held.barrier, written.barrier) {
+        // b) and c)
+        (Barrier::None, Barrier::None) => {
+            let difference = match series.option_type {
+                OptionType::Call => fine(held.strike) - fine(written.strike),
+                OptionType::Put => fine(written.strike) - fine(held.strike),
+            };
+            Some(max(0, difference))
+        }
+        // d) and f)
+        (Barrier::DownAndOut(od_held), Barrier::DownAndOut(od_written))
+            if od_held <= od_written =>
+        {
+            let reachable = series.low() <= fine(od_written);
+            let highest = series.high();
+            let lowest = if reachable { fine(od_written) } else { series.low() };
+            let same_barrier = od_held == od_written;
+            Some(knock_out_spread(series, held, written, same_barrier, reachable, lowest, highest))
+        }
+        // e) and g)
+        (Barrier::UpAndOut(ou_held), Barrier::UpAndOut(ou_written)) if ou_held >= ou_written => {
+            let reachable = series.high() >= fine(ou_written);
+            let highest = if reachable { fine(ou_written) } else { series.high() };
+            let lowest = series.low();
+            let same_barrier = ou_held == ou_written;
+            Some(knock_out_spread(series, held, written, same_barrier, reachable, lowest, highest))
+        }
+        // Nothing else pairs.
+        _ => None,
+    }
+}
+
+/// `lowest` and `highest` are L and H, with the written barrier in place of
+/// the one it cuts off where it is reachable.
+fn knock_out_spread(
+    series: &Series,
+    held: &Terms,
+    written: &Terms,
+    same_barrier: bool,
+    reachable: bool,
+    lowest: i128,
+    highest: i128,
+) -> i128 {
+    let mm = series.minimum_margin();
+    let pe_held = fine(held.strike);
+    let pe_written = fine(written.strike);
+    // The held rebate counts only where both are knocked out together.
+    let r = if same_barrier {
+        max(0, fine(written.rebate) - fine(held.rebate))
+    } else {
+        fine(written.rebate)
+    };
+
+    let held_pays_at_least_as_much = match series.option_type {
+        OptionType::Call => pe_held <= pe_written,
+        OptionType::Put => pe_held >= pe_written,
+    };
+    if held_pays_at_least_as_much {
+        return if reachable { r } else { 0 };
+    }
+
+    let d = match series.option_type {
+        OptionType::Call => min(pe_held, highest) - pe_written,
+        OptionType::Put => pe_written - max(pe_held, lowest),
+    };
+    if reachable {
+        max(mm, max(r, d))
+    } else {
+        max(mm, d)
+    }
+}

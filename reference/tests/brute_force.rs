@@ -1,0 +1,119 @@
+//! The brute force finds nothing in the reference, and finds what it should in
+//! wrong answers.
+
+use reference::account::Account;
+use reference::brute_force::{check, reference_claim};
+use reference::draft::{example, Draft, PositionDraft, SeriesDraft, CALL, UP_AND_OUT, WRITTEN};
+use reference::pairing::{margin, Left, Margin};
+use reference::paths::{is_path, payment};
+use reference::random::Random;
+use reference::reader::read_account;
+use reference::sample::{sample_account, Shape};
+
+fn example_account() -> Account {
+    read_account(&example().bytes()).unwrap()
+}
+
+#[test]
+fn random_small_accounts() {
+    let shape = Shape {
+        series: (1, 2),
+        positions: (1, 6),
+        pv: (2, 60),
+        quantity: (1, 5),
+        m: (1, 3),
+        fb_above_one: true,
+    };
+    let mut random = Random::new(7);
+    for _ in 0..400 {
+        let bytes = sample_account(&mut random, &shape).bytes();
+        let account = read_account(&bytes).expect("accepted");
+        let claim = reference_claim(&account);
+        if let Err(violation) = check(&account, &claim, 4) {
+            panic!("{violation}\n{account:#?}\n{claim:#?}");
+        }
+    }
+}
+
+/// The violation found in a changed answer to the example.
+fn found(change: impl Fn(&mut reference::brute_force::Claim)) -> String {
+    let account = example_account();
+    let mut claim = reference_claim(&account);
+    assert!(check(&account, &claim, 4).is_ok());
+    change(&mut claim);
+    check(&account, &claim, 4).unwrap_err()
+}
+
+#[test]
+fn total_zero_is_found() {
+    assert!(found(|claim| claim.margin.total = 0).starts_with("the cover"));
+}
+
+#[test]
+fn enormous_unit_margin_is_found() {
+    assert!(found(|claim| claim.units[0] = 1 << 60).starts_with("the least amount"));
+    // Two fine units more than needed are too many.
+    assert!(found(|claim| claim.units[0] += 2).starts_with("the least amount"));
+}
+
+#[test]
+fn unit_margin_one_too_small_is_found() {
+    assert!(found(|claim| claim.units[0] -= 1).starts_with("the least amount"));
+}
+
+#[test]
+fn no_pair_at_all_is_found() {
+    let no_pairs = |claim: &mut reference::brute_force::Claim| {
+        claim.margin = Margin {
+            pairs: vec![],
+            left: vec![
+                Left { row: 0, quantity: 10, amount: 25_000 },
+                Left { row: 1, quantity: 4, amount: 0 },
+                Left { row: 2, quantity: 3, amount: 0 },
+            ],
+            premium: 300,
+            total: 25_300,
+        }
+    };
+    assert!(found(no_pairs).starts_with("pairs left unmade"));
+}
+
+#[test]
+fn lost_contracts_are_found() {
+    assert!(found(|claim| claim.margin.left.clear()).starts_with("contracts"));
+}
+
+#[test]
+fn paths() {
+    let account = example_account();
+    let series = &account.series[0];
+    let tick = 1_000_000;
+    assert!(!is_path(series, &[]));
+    assert!(is_path(series, &[3600 * tick]));
+    assert!(!is_path(series, &[3600 * tick + 1]));
+    assert!(!is_path(series, &[2400 * tick - 1]));
+    assert!(is_path(series, &[2400 * tick, 2880 * tick]));
+    assert!(!is_path(series, &[2400 * tick, 2880 * tick + 1]));
+    // Every later price is bound by every earlier one.
+    assert!(is_path(series, &[2400 * tick, 2700 * tick]));
+    assert!(is_path(series, &[2700 * tick, 3000 * tick]));
+    assert!(!is_path(series, &[2400 * tick, 2700 * tick, 3000 * tick]));
+}
+
+#[test]
+fn payments_about_a_barrier() {
+    let row = PositionDraft::plain(0, WRITTEN, 3100, 1).with_barrier(UP_AND_OUT, 3500, 40);
+    let draft = Draft::new(vec![SeriesDraft::checked(CALL)], vec![row]);
+    let account = read_account(&draft.bytes()).unwrap();
+    let series = &account.series[0];
+    let terms = account.positions[0].terms();
+    let tick = 1_000_000;
+    let pays = |prices: &[i128]| payment(series.option_type, &terms, prices);
+    assert_eq!(pays(&[3500 * tick - 1]), 400 * tick - 1);
+    assert_eq!(pays(&[3500 * tick]), 40 * tick);
+    assert_eq!(pays(&[3500 * tick, 3400 * tick]), 40 * tick);
+    assert_eq!(pays(&[3000 * tick]), 0);
+    // The margin is 400 ticks: one fine unit above what is ever paid.
+    assert_eq!(margin(&account).total, 400 * 5);
+    assert!(check(&account, &reference_claim(&account), 4).is_ok());
+}
