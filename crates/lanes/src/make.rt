@@ -1,0 +1,61 @@
+// One pair made: its five numbers written, its two quantities lowered.
+use account::rows::position_row;
+use account::rows::series_row;
+use numbers::amount;
+use numbers::smaller;
+use rules::Layout;
+use spreads::pair::spread_unit;
+ghost use Prim.Native.Nat.{ℕ, _+_, _*_, _≤_, _<_};
+ghost use lib.ListN.{length};
+ghost use mathlib.Core.Bool.{true};
+ghost use mathlib.Core.Path.{_≡_};
+ghost use Rattle.lanes.specs.Keys.{AcceptedFile, nth};
+ghost use Rattle.lanes.specs.Pairing.{FiveWritten, PairAsked, PairWritten};
+ghost use Rattle.rules.specs.File.{accountOf};
+ghost use Rattle.rules.specs.Lines.{spreadAmount};
+ghost use Rattle.rules.specs.Pairs.{mayOf};
+
+fn put_line(numbers: &mut [u64], k: usize, w: u64, h: u64, q: u64, amount: u64)
+    requires { ⌜ 5 * k + 5 ≤ length (now numbers) ⌝ }
+    ensures { λ _. ⌜ FiveWritten k w h q amount (now (numbers .entry)) (now (numbers .exit)) ⌝ }
+{
+    let at = 5 * k;
+    numbers[at] = 1;
+    numbers[at + 1] = w;
+    numbers[at + 2] = h;
+    numbers[at + 3] = q;
+    numbers[at + 4] = amount;
+}
+
+// The amount of a pair of q contracts: unit × M × q.
+fn pair_amount(file: &[u8], l: Layout, w: usize, h: usize, q: u64) -> u64
+    requires { ⌜ AcceptedFile (now file) l × (w < l .positions) × (h < l .positions) × (q ≤ 100_000) × (mayOf (accountOf (now file) l) w h ≡ true) ⌝ }
+    ensures { λ r. ⌜ (r ≡ spreadAmount (accountOf (now (file .entry)) l) (record { written = w; held = h; quantity = q })) × (r ≤ 10_000_000_000_000_000) ⌝ }
+{
+    let row = position_row(file, l, w);
+    let series = series_row(file, l, row.series as usize);
+    let unit = spread_unit(file, l, w, h);
+    amount(unit, series.m, q)
+}
+
+pub fn make_pair(
+    file: &[u8],
+    l: Layout,
+    left: &mut [u64],
+    numbers: &mut [u64],
+    k: usize,
+    w: usize,
+    h: usize,
+) -> u64
+    requires { ⌜ PairAsked (now file) l (now left) (now numbers) k w h ⌝ }
+    ensures { λ r. ⌜ PairWritten (accountOf (now (file .entry)) l) k w h (now (left .entry)) (now (numbers .entry)) (now (left .exit)) (now (numbers .exit)) r ⌝ }
+{
+    let x = left[w];
+    let y = left[h];
+    let q = smaller(x, y);
+    let money = pair_amount(file, l, w, h, q);
+    left[w] = x - q;
+    left[h] = y - q;
+    put_line(numbers, k, w as u64, h as u64, q, money);
+    money
+}
