@@ -5,6 +5,7 @@ pub mod SortLaws
 pub mod CursorLaws
 pub mod RankLaws
 pub mod CodeLaws
+pub mod BarredLaws
 pub mod PlainLaws
 pub mod SeekLaws
 pub mod RowLaws
