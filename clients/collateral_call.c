@@ -4,22 +4,28 @@
  * collateral_call FILE    prints a line for each pair and each row left, and the total, all amounts in centavos; or the
  *                         refusal. Exit status 0 with a total, 1 with a refusal, 2 where the file cannot be read.
  */
+#include "account_file.h"
 #include "serpentgleam.h"
 
-#include <errno.h>
 #include <inttypes.h>
 #include <stdio.h>
-#include <string.h>
 
-#define SPACE 65537
 #define ROOM 256
+
+static void print_line(const struct serpentgleam_line *line)
+{
+    if (line->kind == 1)
+        printf("written row %" PRIu64 ", held row %" PRIu64 ": %" PRIu64 " contracts, %" PRIu64 "\n", line->first,
+               line->second, line->third, line->fourth);
+    else
+        printf("row %" PRIu64 ": %" PRIu64 " contracts, %" PRIu64 "\n", line->first, line->second, line->third);
+}
 
 int main(int count, char **words)
 {
-    static uint8_t file[SPACE];
+    static uint8_t file[ACCOUNT_SPACE];
     static struct serpentgleam_line lines[ROOM];
     struct serpentgleam_result answer;
-    FILE *in;
     size_t length;
     uint64_t i;
 
@@ -27,32 +33,16 @@ int main(int count, char **words)
         fprintf(stderr, "usage: collateral_call FILE\n");
         return 2;
     }
-    in = fopen(words[1], "rb");
-    if (in == NULL) {
-        fprintf(stderr, "collateral_call: %s: %s\n", words[1], strerror(errno));
+    if (!read_account_file("collateral_call", words[1], file, &length))
         return 2;
-    }
-    length = fread(file, 1, SPACE, in);
-    if (ferror(in)) {
-        fprintf(stderr, "collateral_call: %s cannot be read\n", words[1]);
-        fclose(in);
-        return 2;
-    }
-    fclose(in);
 
     answer = serpentgleam_margin(file, length, lines, ROOM);
     if (answer.refusal != 0) {
         printf("refused %" PRIu64 " %" PRIu64 "\n", answer.refusal, answer.row);
         return 1;
     }
-    for (i = 0; i < answer.lines; i++) {
-        if (lines[i].kind == 1)
-            printf("written row %" PRIu64 ", held row %" PRIu64 ": %" PRIu64 " contracts, %" PRIu64 "\n", lines[i].first,
-                   lines[i].second, lines[i].third, lines[i].fourth);
-        else
-            printf("row %" PRIu64 ": %" PRIu64 " contracts, %" PRIu64 "\n", lines[i].first, lines[i].second,
-                   lines[i].third);
-    }
+    for (i = 0; i < answer.lines; i++)
+        print_line(&lines[i]);
     printf("total %" PRIu64 "\n", answer.total);
     return 0;
 }

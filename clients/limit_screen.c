@@ -4,6 +4,7 @@
  * limit_screen FILE ROW    prints the amount in centavos, or why there is none. Exit status 0 with an amount, 1 with a
  *                          refusal, 2 where the file cannot be read or the words are wrong.
  */
+#include "account_file.h"
 #include "serpentgleam.h"
 
 #include <errno.h>
@@ -11,9 +12,6 @@
 #include <stdio.h>
 #include <stdlib.h>
 #include <string.h>
-
-/* One byte more than a file may have, so that a longer one is refused and not cut short. */
-#define SPACE 65537
 
 static const char *refusal(int64_t number)
 {
@@ -36,9 +34,8 @@ static const char *refusal(int64_t number)
 
 int main(int count, char **words)
 {
-    static uint8_t file[SPACE];
+    static uint8_t file[ACCOUNT_SPACE];
     char *end;
-    FILE *in;
     size_t length;
     uint64_t row;
     int64_t answer;
@@ -53,18 +50,8 @@ int main(int count, char **words)
         fprintf(stderr, "limit_screen: the row is a whole number from 0 on: %s\n", words[2]);
         return 2;
     }
-    in = fopen(words[1], "rb");
-    if (in == NULL) {
-        fprintf(stderr, "limit_screen: %s: %s\n", words[1], strerror(errno));
+    if (!read_account_file("limit_screen", words[1], file, &length))
         return 2;
-    }
-    length = fread(file, 1, SPACE, in);
-    if (ferror(in)) {
-        fprintf(stderr, "limit_screen: %s cannot be read\n", words[1]);
-        fclose(in);
-        return 2;
-    }
-    fclose(in);
 
     answer = serpentgleam_position_amount(file, length, row);
     if (answer < 0) {
