@@ -1,0 +1,112 @@
+//! Deliberately changed answers, to see that the comparison finds them.
+
+use crate::implementation::{Implementation, Line, Margin};
+
+#[derive(Clone, Copy, Debug, PartialEq, Eq)]
+pub enum Change {
+    Total,
+    LineCount,
+    LineAmount,
+    LeftOrder,
+    RefusalNumber,
+    RefusalRow,
+    ListRefused,
+    EntryAfterLines,
+    EntryAfterList,
+    ListOnRefusal,
+    Amount,
+    MissingRow,
+    FileWritten,
+    ReadingOutside,
+}
+
+pub const CHANGES: [(&str, Change); 14] = [
+    ("total", Change::Total),
+    ("line-count", Change::LineCount),
+    ("line-amount", Change::LineAmount),
+    ("left-order", Change::LeftOrder),
+    ("refusal-number", Change::RefusalNumber),
+    ("refusal-row", Change::RefusalRow),
+    ("list-refused", Change::ListRefused),
+    ("entry-after-lines", Change::EntryAfterLines),
+    ("entry-after-list", Change::EntryAfterList),
+    ("list-on-refusal", Change::ListOnRefusal),
+    ("amount", Change::Amount),
+    ("missing-row", Change::MissingRow),
+    ("file-written", Change::FileWritten),
+    ("reading-outside", Change::ReadingOutside),
+];
+
+/// An implementation with one change wherever it applies.
+pub struct Changed<'a> {
+    pub of: &'a dyn Implementation,
+    pub change: Change,
+}
+
+impl Implementation for Changed<'_> {
+    fn margin(&self, file: &[u8], entries: &mut [Line], room: usize) -> Margin {
+        touch(file, self.change);
+        let mut margin = self.of.margin(file, entries, room);
+        let lines = margin.lines as usize;
+        if margin.refusal == 0 {
+            change_accepted(self.change, &mut margin, entries);
+        } else {
+            change_refused(self.change, &mut margin, entries, room);
+        }
+        match self.change {
+            Change::EntryAfterLines if margin.refusal == 0 && lines < room => {
+                entries[lines].kind = 0;
+            }
+            Change::EntryAfterList => entries[room].fourth = 0,
+            _ => {}
+        }
+        margin
+    }
+
+    fn position_amount(&self, file: &[u8], row: u64) -> i64 {
+        touch(file, self.change);
+        match (self.change, self.of.position_amount(file, row)) {
+            (Change::Amount, amount) if amount > 0 => amount - 1,
+            (Change::MissingRow, -13) => 0,
+            (_, amount) => amount,
+        }
+    }
+}
+
+fn change_accepted(change: Change, margin: &mut Margin, entries: &mut [Line]) {
+    let lines = margin.lines as usize;
+    match change {
+        Change::Total => margin.total += 1,
+        Change::LineCount => margin.lines -= 1,
+        Change::LineAmount if entries[0].kind == 1 => entries[0].fourth += 1,
+        Change::LeftOrder if lines >= 2 && entries[lines - 2].kind == 2 => {
+            entries.swap(lines - 2, lines - 1);
+        }
+        _ => {}
+    }
+}
+
+fn change_refused(change: Change, margin: &mut Margin, entries: &mut [Line], room: usize) {
+    match change {
+        Change::RefusalNumber if margin.refusal == 9 => margin.refusal = 8,
+        Change::RefusalRow if margin.row > 0 => margin.row -= 1,
+        Change::ListRefused if margin.refusal == 12 => margin.refusal = 0,
+        Change::ListOnRefusal if room > 0 => entries[0].kind = 1,
+        _ => {}
+    }
+}
+
+/// What a library must not do with a file lent to it.
+fn touch(file: &[u8], change: Change) {
+    match change {
+        // SAFETY: none. The memory lent to the library bears being written to.
+        Change::FileWritten if !file.is_empty() => unsafe {
+            file.as_ptr().cast_mut().write_volatile(!file[0]);
+        },
+        // SAFETY: none. Reading there is to end the program.
+        Change::ReadingOutside => unsafe {
+            file.as_ptr().add(file.len()).read_volatile();
+        },
+        _ => {}
+    }
+}

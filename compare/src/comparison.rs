@@ -1,0 +1,110 @@
+//! Both answers to each question about a file.
+
+use std::fmt;
+
+use reference::reader::read_account;
+
+use crate::files::File;
+use crate::implementation::{Implementation, Line, Margin};
+use crate::lending::Lending;
+use crate::questions::{questions, Question};
+use crate::summary::Summary;
+
+/// Entries after the caller's list, which is not told of them.
+const AFTER_LIST: usize = 3;
+
+#[derive(Clone, Debug, PartialEq, Eq)]
+pub enum Answer {
+    /// With the whole list as it was left, and the entries after it.
+    Margin(Margin, Vec<Line>),
+    Amount(i64),
+}
+
+#[derive(Clone, Debug, PartialEq, Eq)]
+pub enum Difference {
+    Answers { question: Question, reference: Answer, library: Answer },
+    FileWrittenTo { question: Question },
+}
+
+/// Stops at the first difference. What was compared is added to the summary.
+pub fn compare_file(
+    file: &File,
+    reference: &dyn Implementation,
+    library: &dyn Implementation,
+    lending: &mut Lending,
+    summary: &mut Summary,
+) -> Result<(), Difference> {
+    let reading = read_account(&file.bytes);
+    let position_count = reading.as_ref().ok().map(|account| account.positions.len());
+    let copies = lending.lend(&file.bytes);
+    let mut turn = file.number as usize;
+    for (question, purpose) in questions(file.seed_of_questions, position_count) {
+        turn += 1;
+        let copy = copies[turn % 2];
+        let expected = answer(reference, &file.bytes, question);
+        let found = answer(library, copy, question);
+        if found != expected {
+            return Err(Difference::Answers { question, reference: expected, library: found });
+        }
+        if copy != file.bytes {
+            return Err(Difference::FileWrittenTo { question });
+        }
+        summary.add_answer(&expected, purpose);
+    }
+    summary.add_file(file, reading.err().map(|refusal| refusal.number));
+    Ok(())
+}
+
+fn answer(implementation: &dyn Implementation, file: &[u8], question: Question) -> Answer {
+    match question {
+        Question::Margin { room } => {
+            let mut entries: Vec<Line> = (0..room + AFTER_LIST).map(content_before).collect();
+            let margin = implementation.margin(file, &mut entries, room);
+            Answer::Margin(margin, entries)
+        }
+        Question::Amount { row } => Answer::Amount(implementation.position_amount(file, row)),
+    }
+}
+
+/// What an entry holds before the call: numbers that no line has.
+pub fn content_before(entry: usize) -> Line {
+    let mark = 0xA5A5_0000_0000_0000 + 8 * entry as u64;
+    Line { kind: mark, first: mark + 1, second: mark + 2, third: mark + 3, fourth: mark + 4 }
+}
+
+impl fmt::Display for Difference {
+    fn fmt(&self, out: &mut fmt::Formatter) -> fmt::Result {
+        match self {
+            Difference::FileWrittenTo { question } => {
+                write!(out, "asked: {question:?}\nthe file's bytes were written to")
+            }
+            Difference::Answers { question, reference, library } => {
+                writeln!(out, "asked: {question:?}")?;
+                writeln!(out, "reference: {}", first_part(reference))?;
+                write!(out, "library: {}", first_part(library))?;
+                write_other_entry(out, reference, library)
+            }
+        }
+    }
+}
+
+fn first_part(answer: &Answer) -> String {
+    match answer {
+        Answer::Margin(margin, _) => format!("{margin:?}"),
+        Answer::Amount(amount) => format!("{amount}"),
+    }
+}
+
+/// The first entry of the list that differs, if there is one.
+fn write_other_entry(out: &mut fmt::Formatter, one: &Answer, other: &Answer) -> fmt::Result {
+    let (Answer::Margin(_, expected), Answer::Margin(_, found)) = (one, other) else {
+        return Ok(());
+    };
+    match expected.iter().zip(found).position(|(e, f)| e != f) {
+        None => Ok(()),
+        Some(at) => {
+            let (expected, found) = (expected[at], found[at]);
+            write!(out, "\nentry {at}, reference: {expected:?}\nentry {at}, library: {found:?}")
+        }
+    }
+}

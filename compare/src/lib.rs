@@ -1,0 +1,26 @@
+//! Comparison of the library with the reference, on files made from a seed.
+//!
+//! Reading order:
+//!
+//! 1. [`files`]: the file of a number, from one of three families in turn
+//! 2. [`random_files`], [`structured`], [`damage`]: the families
+//! 3. [`implementation`]: what both implementations are asked through
+//! 4. [`questions`]: what is asked about a file
+//! 5. [`lending`]: the memory in which the library gets a file
+//! 6. [`comparison`]: both answers to each question about a file
+//! 7. [`summary`]: what was compared
+//! 8. [`changes`]: deliberately changed answers, to see that they are found
+
+pub mod changes;
+pub mod comparison;
+pub mod damage;
+pub mod files;
+pub mod implementation;
+pub mod lending;
+pub mod questions;
+pub mod random_files;
+pub mod structured;
+pub mod summary;
+
+#[cfg(test)]
+mod tests;

@@ -1,0 +1,96 @@
+//! `compare [SECONDS] [SEED] [files=NUMBER] [change=NAME]` compares the library with the reference
+//! until the time is over or so many files are compared, and stops at the first difference.
+
+mod fault;
+mod library;
+
+use std::process::ExitCode;
+use std::time::{Duration, Instant};
+
+use compare::changes::{Change, Changed, CHANGES};
+use compare::comparison::{compare_file, Difference};
+use compare::files::{file, File};
+use compare::implementation::{Implementation, Reference};
+use compare::lending::Lending;
+use compare::summary::Summary;
+use library::Library;
+
+struct Wish {
+    seconds: u64,
+    seed: u64,
+    files: u64,
+    change: Option<Change>,
+}
+
+fn main() -> ExitCode {
+    let Some(wish) = wish_of(std::env::args().skip(1)) else {
+        let names: Vec<&str> = CHANGES.iter().map(|(name, _)| *name).collect();
+        eprintln!("usage: compare [SECONDS] [SEED] [files=NUMBER] [change=NAME]");
+        eprintln!("changes: {}", names.join(" "));
+        return ExitCode::from(2);
+    };
+    fault::report_faults();
+    let start = Instant::now();
+    match compare_files(&wish, start) {
+        Ok(summary) => {
+            println!("seed {}, {} seconds", wish.seed, start.elapsed().as_secs());
+            println!("{summary}");
+            ExitCode::SUCCESS
+        }
+        Err((file, difference)) => {
+            report(&file, &difference.to_string());
+            ExitCode::FAILURE
+        }
+    }
+}
+
+fn wish_of(words: impl Iterator<Item = String>) -> Option<Wish> {
+    let mut plain = [240, 1];
+    let mut given = 0;
+    let (mut files, mut change) = (u64::MAX, None);
+    for word in words {
+        if let Some(number) = word.strip_prefix("files=") {
+            files = number.parse().ok()?;
+        } else if let Some(name) = word.strip_prefix("change=") {
+            change = Some(CHANGES.iter().find(|(known, _)| *known == name)?.1);
+        } else {
+            *plain.get_mut(given)? = word.parse().ok()?;
+            given += 1;
+        }
+    }
+    let [seconds, seed] = plain;
+    Some(Wish { seconds, seed, files, change })
+}
+
+fn compare_files(wish: &Wish, start: Instant) -> Result<Summary, (File, Difference)> {
+    let changed;
+    let library: &dyn Implementation = match wish.change {
+        None => &Library,
+        Some(change) => {
+            changed = Changed { of: &Library, change };
+            &changed
+        }
+    };
+    let mut lending = Lending::new();
+    let mut summary = Summary::default();
+    while start.elapsed() < Duration::from_secs(wish.seconds) && summary.files < wish.files {
+        let file = file(wish.seed, summary.files);
+        fault::asking_about(&file);
+        let compared = compare_file(&file, &Reference, library, &mut lending, &mut summary);
+        if let Err(difference) = compared {
+            return Err((file, difference));
+        }
+    }
+    Ok(summary)
+}
+
+/// Says what is different, and writes the file to `difference.account` in the current folder.
+fn report(file: &File, difference: &str) {
+    println!("file {}, {}: {}", file.number, file.family.name(), file.kinds.join(", "));
+    println!("{difference}");
+    let path = std::env::current_dir().unwrap_or_default().join("difference.account");
+    match std::fs::write(&path, &file.bytes) {
+        Ok(()) => println!("the file is written to {}", path.display()),
+        Err(error) => println!("the file cannot be written to {}: {error}", path.display()),
+    }
+}

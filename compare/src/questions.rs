@@ -1,0 +1,68 @@
+//! What is asked about a file.
+
+use reference::random::Random;
+
+#[derive(Clone, Copy, Debug, PartialEq, Eq)]
+pub enum Question {
+    /// The margin, into a list of so many entries.
+    Margin { room: usize },
+    /// The amount of one row.
+    Amount { row: u64 },
+}
+
+/// A question, and what it is asked for.
+pub type Purpose = (Question, &'static str);
+
+/// All rows are asked for, and both large enough lists are tried, up to this many rows.
+const FEW_ROWS: usize = 12;
+
+/// The position count is given where the file is accepted.
+pub fn questions(seed: u64, position_count: Option<usize>) -> Vec<Purpose> {
+    let mut random = Random::new(seed);
+    let mut asked = match position_count {
+        Some(p) => of_accepted(&mut random, p),
+        None => of_refused(&mut random),
+    };
+    // With the empty list the pointer is NULL.
+    asked.push((Question::Margin { room: 0 }, "no room"));
+    asked
+}
+
+fn of_accepted(random: &mut Random, p: usize) -> Vec<Purpose> {
+    let mut asked = Vec::new();
+    let exactly = random.chance(50);
+    if p <= FEW_ROWS || exactly {
+        asked.push((Question::Margin { room: p }, "room p"));
+    }
+    if p <= FEW_ROWS || !exactly {
+        let room = p + random.between(1, 9) as usize;
+        asked.push((Question::Margin { room }, "room above p"));
+    }
+    if p > 1 {
+        let room = random.between(1, p as i64 - 1) as usize;
+        asked.push((Question::Margin { room }, "room below p"));
+    }
+    let last = p as u64 - 1;
+    if p <= FEW_ROWS {
+        asked.extend((0..=last).map(|row| (Question::Amount { row }, "row")));
+    } else {
+        for row in [0, last, random.next() % last, random.next() % last, random.next() % last] {
+            asked.push((Question::Amount { row }, "row"));
+        }
+    }
+    for row in [last + 1, last + 2, u64::MAX] {
+        asked.push((Question::Amount { row }, "no such row"));
+    }
+    asked
+}
+
+fn of_refused(random: &mut Random) -> Vec<Purpose> {
+    let room = if random.chance(3) { 256 } else { random.between(1, 8) as usize };
+    let any = random.next();
+    let row = random.pick(&[1, 255, any, u64::MAX]);
+    vec![
+        (Question::Margin { room }, "refused file"),
+        (Question::Amount { row: 0 }, "refused file"),
+        (Question::Amount { row }, "refused file"),
+    ]
+}

@@ -1,0 +1,100 @@
+//! What was compared.
+
+use std::collections::BTreeMap;
+use std::fmt;
+
+use crate::comparison::Answer;
+use crate::files::{Family, File};
+
+/// How often each name came up.
+#[derive(Clone, Debug, Default)]
+pub struct Tally(BTreeMap<&'static str, u64>);
+
+#[derive(Clone, Debug, Default)]
+pub struct Summary {
+    pub files: u64,
+    families: Tally,
+    random: Tally,
+    structured: Tally,
+    damage: Tally,
+    faults: [u64; 5],
+    /// By number of refusal, 0 where the file was accepted.
+    outcomes: [u64; 12],
+    margin_calls: Tally,
+    amount_calls: Tally,
+    lines: u64,
+    entries_kept: u64,
+}
+
+impl Tally {
+    pub fn add(&mut self, name: &'static str) {
+        *self.0.entry(name).or_default() += 1;
+    }
+
+    pub fn total(&self) -> u64 {
+        self.0.values().sum()
+    }
+}
+
+impl Summary {
+    pub fn add_file(&mut self, file: &File, refusal: Option<i128>) {
+        self.files += 1;
+        self.families.add(file.family.name());
+        self.outcomes[refusal.unwrap_or(0) as usize] += 1;
+        let kinds = match file.family {
+            Family::Random => &mut self.random,
+            Family::Structured => &mut self.structured,
+            Family::Damaged => {
+                self.faults[file.kinds.len()] += 1;
+                &mut self.damage
+            }
+        };
+        for kind in &file.kinds {
+            kinds.add(kind);
+        }
+    }
+
+    /// An answer that both implementations gave.
+    pub fn add_answer(&mut self, answer: &Answer, purpose: &'static str) {
+        match answer {
+            Answer::Amount(_) => self.amount_calls.add(purpose),
+            Answer::Margin(margin, entries) => {
+                self.margin_calls.add(purpose);
+                self.lines += margin.lines;
+                self.entries_kept += entries.len() as u64 - margin.lines;
+            }
+        }
+    }
+}
+
+impl fmt::Display for Tally {
+    fn fmt(&self, out: &mut fmt::Formatter) -> fmt::Result {
+        let parts = self.0.iter().map(|(name, count)| format!("{name}: {count}"));
+        write!(out, "{}", parts.collect::<Vec<_>>().join("; "))
+    }
+}
+
+impl fmt::Display for Summary {
+    fn fmt(&self, out: &mut fmt::Formatter) -> fmt::Result {
+        writeln!(out, "families: {}", self.families)?;
+        writeln!(out, "random files: {}", self.random)?;
+        writeln!(out, "structured files: {}", self.structured)?;
+        writeln!(out, "faults put in: {}", self.damage)?;
+        let [_, one, two, three, four] = self.faults;
+        writeln!(out, "faults in a file: 1: {one}; 2: {two}; 3: {three}; 4: {four}")?;
+        write!(out, "accepted: {}; refused", self.outcomes[0])?;
+        for (number, count) in self.outcomes.iter().enumerate().skip(1) {
+            write!(out, " {number}: {count}{}", if number < 11 { ";" } else { "\n" })?;
+        }
+        let calls = self.margin_calls.total();
+        writeln!(out, "serpentgleam_margin: {calls} calls: {}", self.margin_calls)?;
+        writeln!(
+            out,
+            "lines compared {}; other entries compared {}",
+            self.lines, self.entries_kept
+        )?;
+        let calls = self.amount_calls.total();
+        writeln!(out, "serpentgleam_position_amount: {calls} calls: {}", self.amount_calls)?;
+        write!(out, "{} files, 0 differences", self.files)
+    }
+}

@@ -1,0 +1,130 @@
+//! The files are what they are meant to be, and the comparison finds changed answers.
+
+use std::collections::BTreeSet;
+
+use reference::account::Account;
+use reference::pairing::margin;
+use reference::reader::read_account;
+
+use crate::changes::{Change, Changed, CHANGES};
+use crate::comparison::{compare_file, Difference};
+use crate::files::{file, Family, File, LONGEST_FILE};
+use crate::implementation::{Implementation, Reference};
+use crate::lending::Lending;
+use crate::summary::Summary;
+
+const SEED: u64 = 7;
+
+fn files_of(family: Family, count: u64) -> impl Iterator<Item = File> {
+    let first = [Family::Random, Family::Structured, Family::Damaged]
+        .iter()
+        .position(|known| *known == family)
+        .unwrap() as u64;
+    (0..count).map(move |turn| file(SEED, 3 * turn + first))
+}
+
+/// 0 for accepted files, else the number of the refusal.
+fn outcomes(family: Family, count: u64) -> BTreeSet<i128> {
+    let outcome = |file: File| read_account(&file.bytes).map_or_else(|r| r.number, |_| 0);
+    files_of(family, count).map(outcome).collect()
+}
+
+fn kinds(family: Family, count: u64) -> BTreeSet<&'static str> {
+    files_of(family, count).flat_map(|file| file.kinds).collect()
+}
+
+#[test]
+fn the_seed_fixes_the_files() {
+    let forwards: Vec<File> = (0..600).map(|number| file(SEED, number)).collect();
+    let mut backwards: Vec<File> = (0..600).rev().map(|number| file(SEED, number)).collect();
+    backwards.reverse();
+    assert!(forwards == backwards);
+    let other_seed = (0..600).filter(|&n| file(SEED + 1, n).bytes == forwards[n as usize].bytes);
+    assert!(other_seed.count() < 20);
+}
+
+#[test]
+fn the_families_come_in_turn() {
+    for turn in 0..50 {
+        assert_eq!(file(SEED, 3 * turn).family, Family::Random);
+        assert_eq!(file(SEED, 3 * turn + 1).family, Family::Structured);
+        assert_eq!(file(SEED, 3 * turn + 2).family, Family::Damaged);
+    }
+}
+
+#[test]
+fn random_files_reach_the_rows() {
+    let count = 30_000;
+    assert_eq!(outcomes(Family::Random, count), (0..=11).collect());
+    assert_eq!(kinds(Family::Random, count).len(), 7);
+    let lengths: BTreeSet<usize> = files_of(Family::Random, count).map(|f| f.bytes.len()).collect();
+    for length in (0..=40).chain(65_535..=65_538) {
+        assert!(lengths.contains(&length), "{length}");
+    }
+}
+
+#[test]
+fn structured_files_are_accepted_and_various() {
+    let files: Vec<File> = files_of(Family::Structured, 20_000).collect();
+    let read = |file: &File| read_account(&file.bytes).expect("accepted");
+    let accounts: Vec<Account> = files.iter().map(read).collect();
+    let some = |what: &dyn Fn(&Account) -> bool| accounts.iter().any(what);
+    assert_eq!(kinds(Family::Structured, 20_000).len(), 12);
+    assert!(some(&|a| a.series.len() == 32 && a.positions.len() == 256));
+    assert!(some(&|a| a.series.len() == 1 && a.positions.len() == 256));
+    assert!(some(&|a| a.series.len() == 1 && a.positions.len() == 1));
+    assert!(some(&|a| a.series.iter().any(|s| s.fb > 1_000_000)));
+    for quantity in [1, 100_000] {
+        assert!(some(&|a| a.positions.iter().any(|p| p.quantity == quantity)));
+    }
+    for pv in [1, 10_000_000] {
+        assert!(some(&|a| a.series.iter().any(|s| s.pv == pv)));
+    }
+    assert!(some(&|a| a.positions.len() < 50 && margin(a).pairs.len() > 10));
+    assert!(files.iter().any(|f| f.bytes.len() == LONGEST_FILE));
+    let covered = |(f, a): &(&File, &Account)| {
+        f.bytes.len() > reference::reader::distance(a.series.len(), a.positions.len())
+    };
+    let with_cover = files.iter().zip(&accounts).filter(covered).count();
+    assert!(with_cover > files.len() / 3 && with_cover < files.len());
+}
+
+#[test]
+fn damaged_files_are_accepted_or_refused_with_every_number() {
+    assert_eq!(outcomes(Family::Damaged, 20_000), (0..=11).collect());
+    assert_eq!(kinds(Family::Damaged, 20_000).len(), 10);
+    let counts: BTreeSet<usize> = files_of(Family::Damaged, 500).map(|f| f.kinds.len()).collect();
+    assert_eq!(counts, (1..=4).collect());
+}
+
+/// Compares the reference with the other implementation on the first files.
+fn compared(other: &dyn Implementation, count: u64) -> Result<Summary, Difference> {
+    let mut lending = Lending::new();
+    let mut summary = Summary::default();
+    for number in 0..count {
+        let file = file(SEED, number);
+        compare_file(&file, &Reference, other, &mut lending, &mut summary)?;
+    }
+    Ok(summary)
+}
+
+#[test]
+fn the_reference_does_not_differ_from_itself() {
+    let summary = compared(&Reference, 3_000).expect("no difference");
+    assert_eq!(summary.files, 3_000);
+    assert!(summary.to_string().ends_with("\n3000 files, 0 differences"));
+}
+
+#[test]
+fn every_changed_answer_is_found() {
+    for (name, change) in CHANGES {
+        // Reading outside ends the program, and is tried with it.
+        if change == Change::ReadingOutside {
+            continue;
+        }
+        let found = compared(&Changed { of: &Reference, change }, 3_000);
+        let difference = found.expect_err(name);
+        let written = matches!(difference, Difference::FileWrittenTo { .. });
+        assert_eq!(written, change == Change::FileWritten, "{name}");
+    }
+}

@@ -1,0 +1,196 @@
+#!/usr/bin/env python3
+"""Tests of account_text.py: every file comes back byte for byte. What is said of faulty texts is in test_errors.py."""
+import os
+import random
+import subprocess
+import sys
+import unittest
+
+from account_faults import first_refusal, trailer_fault
+from account_layout import POSITION, SERIES, Account, account_of, file_of, unpack
+from account_text import EXAMPLE, USAGE, file_from_text, text_from_file
+from test_errors import Errors  # run with the tests below
+from test_support import EXAMPLES, LAID_OUT, SERIES_TEXT, TOP, VECTORS, bytes_of, file_with, row_with, run
+
+RAW_WORDS = (' type=', ' side=', ' kind=', ' barrier-price=', ' PB-without-flag=', ' other-flags=', ' spare=')
+EDGES = (0, 1, 2, 4, 8, 16, 255, 3000, 65_535, 10_000_000, 10_000_001, 2 ** 32 - 1)
+
+
+def text_beside(path):
+    return bytes_of(path.replace('.account', '.txt'))
+
+
+def nonzero(row):
+    return {name: value for name, value in row.items() if value}
+
+
+def random_rows(source, table, count):
+    """Rows of random bytes, some of their fields at values near the limits."""
+    rows = [unpack(table, source.randbytes(table.size)) for _ in range(count)]
+    for row in rows:
+        for field in source.sample(table.fields, source.randint(0, len(table.fields))):
+            row[field.name] = source.choice(EDGES) & field.bits
+    return rows
+
+
+class RoundTrip(unittest.TestCase):
+    def check(self, data):
+        self.assertEqual(file_from_text(text_from_file(data)), data)
+
+    def test_examples(self):
+        self.assertGreater(len(EXAMPLES), 0)
+        for path in EXAMPLES:
+            with self.subTest(path):
+                self.check(bytes_of(path))
+                self.assertEqual(file_from_text(text_beside(path)), bytes_of(path))
+
+    def test_vectors(self):
+        self.assertEqual(len(VECTORS), 1400)
+        for data, _ in LAID_OUT:
+            self.check(data)
+
+    def test_vectors_that_cannot_be_laid_out(self):
+        for data, answer in VECTORS:
+            if trailer_fault(data):
+                status, output, errors = run(['to-text'], data)
+                self.assertEqual((status, output), (1, b''))
+                self.assertRegex(errors, rf'\A{answer}: [^\n]+\n\Z')
+                self.assertRegex(answer, r'\Arefused [1-4] 0\Z')
+
+    def test_random_rows(self):
+        source = random.Random(81)
+        for _ in range(3000):
+            series = random_rows(source, SERIES, source.randint(1, 3))
+            positions = random_rows(source, POSITION, source.randint(1, 4))
+            self.check(file_of(Account(source.randbytes(source.choice((0, 0, 5, 90))), series, positions)))
+
+    def test_random_bytes_in_files(self):
+        source = random.Random(2003)
+        for data, _ in LAID_OUT:
+            if len(data) < 1000:
+                changed = bytearray(data)
+                for _ in range(source.randint(1, 4)):
+                    changed[source.randrange(len(data) - 12)] = source.randrange(256)
+                self.check(bytes(changed))
+
+    def test_largest_counts_and_covers(self):
+        account = account_of(file_with('written Q=1 PE=1'))
+        for cover in (b'', b'\n', b'\xff' * 56_564, 'ação "x" \\ # ü\r\n\tb'.encode() * 2000, bytes(range(256)) * 220):
+            self.check(file_of(Account(cover, account.series * 32, account.positions * 256)))
+
+    def test_text_is_stable(self):
+        for text in [EXAMPLE.encode()] + [text_beside(path) for path in EXAMPLES]:
+            once = text_from_file(file_from_text(text))
+            self.assertEqual(text_from_file(file_from_text(once)), once)
+
+
+class Comments(unittest.TestCase):
+    def test_first_refusal_is_the_answer(self):
+        for data, answer in LAID_OUT:
+            self.assertEqual(first_refusal(account_of(data)), answer if answer.startswith('refused') else None)
+
+    def test_orderly_accounts_show_nothing_raw(self):
+        orderly = [data for data, answer in LAID_OUT if not answer.startswith('refused')]
+        for data in orderly[:300]:
+            lines = text_from_file(data).decode().split('\n')
+            for line in lines[1:]:
+                self.assertFalse(line.startswith('#'), line)
+                self.assertFalse(not line.startswith('cover') and [word for word in RAW_WORDS if word in line], line)
+
+    def test_faults_stand_under_their_row(self):
+        text = text_from_file(file_with('held Q=1 PE=3100\nwritten Q=0 PE=3100 premium=3\n')).decode()
+        self.assertIn('\n# By the comments below the answer is: refused 8 1. ', text)
+        self.assertEqual(text.split('\n')[-5:], [
+            'held series=0 Q=1 PE=3100' + ' ' * 47 + '# position row 0',
+            'written series=0 Q=0 PE=3100 premium=3' + ' ' * 34 + '# position row 1',
+            '#   refusal 8: Q is 1 to 100000',
+            '#   refusal 8: premium is 0 on a written row',
+            ''])
+
+    def test_faults_of_a_series(self):
+        line = 'series type=7 PV=1 fa=0.999999 fb=1.0 f3=4294.967295 M=1'
+        text = text_from_file(file_from_text((line + '\nheld Q=1 PE=1').encode())).decode()
+        self.assertEqual(text.split('\n')[2:7], [
+            line + ' ' * 16 + '# series row 0', '#   refusal 5: fa is 1.0 to 10.0', '#   refusal 5: f3 is 0.0 to 1.0',
+            '#   refusal 5: fb is 0.0 to fa', '#   refusal 6: type is 0 to 1'])
+
+
+class Form(unittest.TestCase):
+    def test_defaults(self):
+        self.assertEqual(nonzero(row_with('held Q=1 PE=2')), {'Q': 1, 'PE': 2})
+
+    def test_words_in_any_order(self):
+        row = row_with('position before-annex knocked-in premium=6 REB=5 down-and-in=4 PB=7 PE=3 Q=2 series=9 '
+                       'european written')
+        self.assertEqual(nonzero(row), {
+            'series': 9, 'side': 1, 'kind': 2, 'knocked-in': 1, 'limiter': 2, 'european': 4, 'before-annex': 8,
+            'Q': 2, 'PE': 3, 'PB': 7, 'barrier-price': 4, 'REB': 5, 'premium': 6})
+
+    def test_limiter_at_zero(self):
+        self.assertEqual(nonzero(row_with('held Q=1 PE=2 PB=0')), {'Q': 1, 'PE': 2, 'limiter': 2})
+
+    def test_raw_values(self):
+        row = row_with('position side=3 Q=0 PE=0 kind=9 barrier-price=7 PB-without-flag=8 other-flags=144 spare=01ff00')
+        self.assertEqual(nonzero(row), {
+            'side': 3, 'kind': 9, 'barrier-price': 7, 'PB': 8, 'other-flags': 144, 'spare': 0x00ff01})
+
+    def test_factors_are_exact(self):
+        for text, millionths in (('0.0', 0), ('1.0', 1_000_000), ('1.2', 1_200_000), ('0.000001', 1),
+                                 ('1.100001', 1_100_001), ('4294.967295', 2 ** 32 - 1)):
+            line = f'series put PV=1 fa={text} fb=0.1 f3=0.1 M=1'
+            data = file_from_text((line + '\nheld Q=1 PE=1').encode())
+            self.assertEqual(account_of(data).series[0]['fa'], millionths)
+            self.assertIn(line, text_from_file(data).decode())
+
+    def test_comments_empty_lines_line_ends_and_byte_order_mark(self):
+        lines = ('# first', '', SERIES_TEXT.strip() + '# no space before', '  ', '\theld  Q=1\tPE=2 # european')
+        plain = file_from_text('\n'.join(lines).encode())
+        self.assertEqual(file_from_text(b'\xef\xbb\xbf' + '\r\n'.join(lines).encode()), plain)
+        self.assertEqual(nonzero(account_of(plain).positions[0]), {'Q': 1, 'PE': 2})
+
+    def test_cover(self):
+        data = file_with('cover text="a # \\"b\\" \\\\ \\n" # "c"\ncover hex=00FF\ncover text=""\nheld Q=1 PE=1')
+        self.assertEqual(account_of(data).cover, b'a # "b" \\ \n\x00\xff')
+
+    def test_cover_that_cannot_be_printed(self):
+        for cover, lines in ((b'l\xed\xe1', 'cover hex=6cede1  # l..\n'),
+                             ('aé\n\u202e'.encode(), 'cover text="aé\\n"\ncover hex=e280ae  # ...\n')):
+            self.assertIn('\n' + lines + 'series', text_from_file(cover + file_with('held Q=1 PE=1')).decode())
+
+    def test_faulty_counts_can_be_written(self):
+        for text, refusal in ((SERIES_TEXT, 3), ('', 2), (SERIES_TEXT * 33, 2), ('held series=0 Q=1 PE=1', 2)):
+            self.assertEqual(trailer_fault(file_from_text(text.encode()))[0], refusal)
+
+
+class Program(unittest.TestCase):
+    def test_commands(self):
+        command = [sys.executable, os.path.join(TOP, 'tools', 'account_text.py')]
+        text = subprocess.run(command + ['to-text', EXAMPLES[0]], capture_output=True, check=True).stdout
+        data = subprocess.run(command + ['to-file'], input=text, capture_output=True, check=True).stdout
+        self.assertEqual(data, bytes_of(EXAMPLES[0]))
+
+    def test_usage(self):
+        self.assertEqual(run(['-h']), (0, USAGE.encode(), ''))
+        for arguments in ([], ['to-fiel'], ['to-file', 'a', 'b']):
+            self.assertEqual(run(arguments), (2, b'', USAGE))
+        self.assertEqual(len(account_of(file_from_text(EXAMPLE.encode())).positions), 4)
+
+    def test_input_that_cannot_be_read(self):
+        status, output, errors = run(['to-file', os.path.join(TOP, 'examples', 'none.txt')])
+        self.assertEqual((status, output), (2, b''))
+        self.assertIn('none.txt: No such file or directory', errors)
+
+    def test_trailers(self):
+        data = file_with('held Q=1 PE=1')
+        for faulty, sentence in (
+                (b'abc', '1 0: the file has 3 bytes, and an account file has 12 to 65536'),
+                (data[:-12] + b'\0' + data[-11:], '2 0: in the trailer the series count is 1 to 32, and here it is 0'),
+                (data[:-1] + b'\1', '2 0: in the trailer the ending is 00000000, and here it is 00000001'),
+                (data[:-10] + b'\0' + data[-9:], '3 0: the trailer counts no positions'),
+                (data[:-8] + b'\1' + data[-7:], '4 0: the distance in the trailer is 1, and its counts make it 68'),
+                (data[1:], '4 0: the distance in the trailer is 68, and the file has only 67 bytes')):
+            self.assertEqual(run(['to-text'], faulty), (1, b'', f'refused {sentence}\n'))
+
+
+if __name__ == '__main__':
+    unittest.main()
