@@ -3,9 +3,11 @@
  *
  * Link with libserpentgleam.a, which `rt staticlib serpentgleam` writes below target/staticlib. The library has no state,
  * takes no memory from a heap, starts no thread and calls nothing of the operating system: every call may be made from
- * any thread, and calls on different threads do not meet. It reads the bytes handed over during the call alone, keeps no
- * pointer to them and writes nothing to them; the caller owns them before, during and after. The same holds of a list of
- * lines, which it writes during the call alone and which must not overlap the file's bytes.
+ * any thread, and calls on different threads do not affect each other. A call needs about 32 KB of stack.
+ *
+ * It reads the bytes handed over during the call alone, keeps no pointer to them and writes nothing to them; the caller
+ * owns them before, during and after. The same holds of a list of lines, which it writes during the call alone and which
+ * must not overlap the file's bytes.
  *
  * An account file has at most 65,536 bytes. Any bytes may be handed over: a file that is not in order is refused, and
  * nothing is read outside it. With length 0 the pointer may be NULL.

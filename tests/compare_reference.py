@@ -1,8 +1,8 @@
 #!/usr/bin/env python3
 """Compares the proved programs with the reference implementation on the reference's vectors.
 
-For each file: the reading (accepted, or refusal and row), and the amounts of up to five rows, the row after the last one
-included. Needs cargo, and target/bin/read_accounts and target/bin/position_amounts (`rt check`). Prints how many of each
+For each file: the reading (accepted, or refusal and row), and the amounts of up to four rows and of one that is not
+there. Needs cargo, and target/bin/read_accounts and target/bin/position_amounts (`rt check`). Prints how many of each
 it compared, and every difference; exit status 1 where there is one.
 """
 import os
@@ -31,8 +31,9 @@ def output(program, data):
     return subprocess.run([path('target', 'bin', program)], input=data, capture_output=True, check=True).stdout.decode()
 
 
-subprocess.run(['cargo', 'build', '--release', '--quiet'], cwd=REFERENCE, check=True)
-one_position = path('reference', 'target', 'release', 'one_position')
+BUILT = path('reference', 'target')
+subprocess.run(['cargo', 'build', '--release', '--quiet', '--target-dir', BUILT], cwd=REFERENCE, check=True)
+one_position = os.path.join(BUILT, 'release', 'one_position')
 with open(path('reference', 'vectors', 'vectors.stdin'), 'rb') as vectors:
     data = vectors.read()
 with open(path('reference', 'vectors', 'vectors.stdout')) as vectors:

@@ -1,4 +1,4 @@
-//! The fastest we know in Rust: held rows sorted by what they can pair with, once upwards and once downwards; written
+//! The fastest of the programs in Rust: held rows sorted by what they can pair with, once upwards and once downwards; written
 //! rows of the same terms behind each other, so that only the first of them searches; and a heap of nearest pairs.
 
 use std::cmp::Reverse;

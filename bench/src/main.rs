@@ -38,7 +38,8 @@ fn burst(mut call: impl FnMut()) -> f64 {
     start.elapsed().as_secs_f64() * 1e6 / calls as f64
 }
 
-/// The best of each program over the rounds. The programs take turns, so that a slow spell of the machine meets all.
+/// The best of each program over the rounds. The programs take turns, so that a change of the machine's clock affects
+/// all of them.
 fn measure<const N: usize>(rounds: usize, calls: [&dyn Fn(); N]) -> [f64; N] {
     let mut best = [f64::MAX; N];
     for _ in 0..rounds {

@@ -66,50 +66,64 @@ fn read_series(row: &[u8]) -> Result<Series, u32> {
     Ok(Series { put: row[20] == 1, high: pv * fa, low: pv * fb, minimum: f3 * pv, fa, fb, m })
 }
 
-fn read_position(row: &[u8], series_rows: &[u8], series_count: usize) -> Result<Position, u32> {
-    let (series, side, kind, flags) = (u16_at(row, 0) as usize, row[2], row[3], row[4]);
-    let knocked = flags & 1 != 0;
-    let knocked_wrong = knocked && kind != UP_IN && kind != DOWN_IN;
-    if series >= series_count
-        || side > 1
-        || kind > 4
-        || flags > 15
-        || knocked_wrong
-        || row[5..8] != [0; 3]
-    {
+/// The numbers of a position row.
+struct Row {
+    series: usize,
+    side: u8,
+    kind: u8,
+    flags: u8,
+    numbers: [u32; 6],
+}
+
+fn read_position(bytes: &[u8], series_rows: &[u8], series_count: usize) -> Result<Position, u32> {
+    let row = Row {
+        series: u16_at(bytes, 0) as usize,
+        side: bytes[2],
+        kind: bytes[3],
+        flags: bytes[4],
+        numbers: [8, 12, 16, 20, 24, 28].map(|at| u32_at(bytes, at)),
+    };
+    let knocked = row.flags & 1 != 0;
+    let knocked_wrong = knocked && row.kind != UP_IN && row.kind != DOWN_IN;
+    let terms_wrong = row.series >= series_count || row.side > 1 || row.kind > 4 || row.flags > 15;
+    if terms_wrong || knocked_wrong || bytes[5..8] != [0; 3] {
         return Err(7);
     }
-    let [q, strike, limiter, barrier, rebate, premium] =
-        [8, 12, 16, 20, 24, 28].map(|at| u32_at(row, at));
-    let strike_wrong = strike < 1 || strike > HIGHEST;
-    let premium_wrong = premium > HIGHEST || side == 1 && premium != 0;
-    if q < 1 || q > 100_000 || strike_wrong || rebate > HIGHEST || premium_wrong {
-        return Err(8);
-    }
-    let put = series_rows[24 * series + 20] == 1;
-    let limited = flags & 2 != 0;
-    if wrong_limiter(put, limited, strike, limiter) {
-        return Err(9);
-    }
-    if kind == NONE && (barrier != 0 || rebate != 0)
-        || kind != NONE && (barrier < 1 || barrier > HIGHEST)
-    {
-        return Err(10);
-    }
-    if !knocked && wrong_side(kind, barrier, u32_at(series_rows, 24 * series)) {
-        return Err(11);
-    }
+    check_numbers(&row, series_rows)?;
+    let [q, strike, limiter, barrier, rebate, premium] = row.numbers;
     let (kind, barrier, rebate) =
-        if knocked { (NONE, 0, 0) } else { (kind, fine(barrier), fine(rebate)) };
-    let limiter = limited.then(|| fine(limiter));
+        if knocked { (NONE, 0, 0) } else { (row.kind, fine(barrier), fine(rebate)) };
+    let limiter = (row.flags & 2 != 0).then(|| fine(limiter));
     Ok(Position {
-        series,
-        written: side == 1,
-        may_pair: flags & 12 != 0,
+        series: row.series,
+        written: row.side == 1,
+        may_pair: row.flags & 12 != 0,
         quantity: q as u64,
         premium: premium as u64,
         terms: Terms { strike: fine(strike), limiter, kind, barrier, rebate },
     })
+}
+
+/// Refusals 8 to 11.
+fn check_numbers(row: &Row, series_rows: &[u8]) -> Result<(), u32> {
+    let [q, strike, limiter, barrier, rebate, premium] = row.numbers;
+    let strike_wrong = strike < 1 || strike > HIGHEST;
+    let premium_wrong = premium > HIGHEST || row.side == 1 && premium != 0;
+    if q < 1 || q > 100_000 || strike_wrong || rebate > HIGHEST || premium_wrong {
+        return Err(8);
+    }
+    let put = series_rows[24 * row.series + 20] == 1;
+    if wrong_limiter(put, row.flags & 2 != 0, strike, limiter) {
+        return Err(9);
+    }
+    let price_wrong = barrier < 1 || barrier > HIGHEST;
+    if row.kind == NONE && (barrier != 0 || rebate != 0) || row.kind != NONE && price_wrong {
+        return Err(10);
+    }
+    if row.flags & 1 == 0 && wrong_side(row.kind, barrier, u32_at(series_rows, 24 * row.series)) {
+        return Err(11);
+    }
+    Ok(())
 }
 
 fn wrong_limiter(put: bool, limited: bool, strike: u32, limiter: u32) -> bool {

@@ -15,7 +15,7 @@ use compare::lending::Lending;
 use compare::summary::Summary;
 use library::Library;
 
-struct Wish {
+struct Request {
     seconds: u64,
     seed: u64,
     files: u64,
@@ -23,7 +23,7 @@ struct Wish {
 }
 
 fn main() -> ExitCode {
-    let Some(wish) = wish_of(std::env::args().skip(1)) else {
+    let Some(request) = request_of(std::env::args().skip(1)) else {
         let names: Vec<&str> = CHANGES.iter().map(|(name, _)| *name).collect();
         eprintln!("usage: compare [SECONDS] [SEED] [files=NUMBER] [change=NAME]");
         eprintln!("changes: {}", names.join(" "));
@@ -31,9 +31,9 @@ fn main() -> ExitCode {
     };
     fault::report_faults();
     let start = Instant::now();
-    match compare_files(&wish, start) {
+    match compare_files(&request, start) {
         Ok(summary) => {
-            println!("seed {}, {} seconds", wish.seed, start.elapsed().as_secs());
+            println!("seed {}, {} seconds", request.seed, start.elapsed().as_secs());
             println!("{summary}");
             ExitCode::SUCCESS
         }
@@ -44,7 +44,7 @@ fn main() -> ExitCode {
     }
 }
 
-fn wish_of(words: impl Iterator<Item = String>) -> Option<Wish> {
+fn request_of(words: impl Iterator<Item = String>) -> Option<Request> {
     let mut plain = [240, 1];
     let mut given = 0;
     let (mut files, mut change) = (u64::MAX, None);
@@ -59,12 +59,12 @@ fn wish_of(words: impl Iterator<Item = String>) -> Option<Wish> {
         }
     }
     let [seconds, seed] = plain;
-    Some(Wish { seconds, seed, files, change })
+    Some(Request { seconds, seed, files, change })
 }
 
-fn compare_files(wish: &Wish, start: Instant) -> Result<Summary, (File, Difference)> {
+fn compare_files(request: &Request, start: Instant) -> Result<Summary, (File, Difference)> {
     let changed;
-    let library: &dyn Implementation = match wish.change {
+    let library: &dyn Implementation = match request.change {
         None => &Library,
         Some(change) => {
             changed = Changed { of: &Library, change };
@@ -73,8 +73,8 @@ fn compare_files(wish: &Wish, start: Instant) -> Result<Summary, (File, Differen
     };
     let mut lending = Lending::new();
     let mut summary = Summary::default();
-    while start.elapsed() < Duration::from_secs(wish.seconds) && summary.files < wish.files {
-        let file = file(wish.seed, summary.files);
+    while start.elapsed() < Duration::from_secs(request.seconds) && summary.files < request.files {
+        let file = file(request.seed, summary.files);
         fault::asking_about(&file);
         let compared = compare_file(&file, &Reference, library, &mut lending, &mut summary);
         if let Err(difference) = compared {

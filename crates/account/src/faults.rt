@@ -9,7 +9,6 @@ use crate::tests::wrong_limiter;
 use crate::tests::wrong_range;
 use crate::tests::wrong_series_range;
 use crate::tests::wrong_series_type;
-use crate::tests::wrong_terms;
 use rules::Fault;
 use rules::PositionRow;
 use rules::Refusal;

@@ -9,7 +9,7 @@ use rules::Series;
 ghost use Prim.Native.Nat.{_<_};
 ghost use mathlib.Core.Path.{_≡_};
 ghost use Rattle.account.specs.Known.{Known};
-ghost use Rattle.rules.specs.File.{accountOf, seriesOfRow};
+ghost use Rattle.rules.specs.File.{accountOf};
 
 pub fn position_at(file: &[u8], l: Layout, row: usize) -> Position
     requires { ⌜ Known (now file) l × (row < l .positions) ⌝ }

@@ -15,7 +15,7 @@ use rules::Refusal;
 ghost use mathlib.Core.Path.{_≡_};
 ghost use Prim.Native.Nat.{_<_};
 ghost use Rattle.rules.specs.Limits.{Placed};
-ghost use Rattle.rules.specs.Refusals.{fileRead, positionRead, positionRows, seriesFault, seriesRows};
+ghost use Rattle.rules.specs.Refusals.{fileRead, positionRead, positionRows, seriesRows};
 
 // Position row i: the position, or its refusal. Its series is looked up once refusal 7 has passed.
 pub fn position_read(file: &[u8], l: Layout, i: usize) -> PositionRead

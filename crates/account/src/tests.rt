@@ -3,7 +3,7 @@
 use rules::PositionRow;
 use rules::SeriesRow;
 ghost use mathlib.Core.Path.{_≡_};
-ghost use Rattle.rules.specs.Refusals.{wrongBarrierPrice, wrongBarrierSide, wrongFlags, wrongLimiter, wrongRange, wrongSeriesRange, wrongSeriesType, wrongTerms};
+ghost use Rattle.rules.specs.Refusals.{wrongBarrierPrice, wrongBarrierSide, wrongLimiter, wrongRange, wrongSeriesRange, wrongSeriesType, wrongTerms};
 
 pub fn wrong_series_range(r: SeriesRow) -> bool
     ensures { λ t. ⌜ t ≡ wrongSeriesRange r ⌝ }

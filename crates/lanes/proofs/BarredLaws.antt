@@ -5,7 +5,7 @@ use mathlib.Core.Bool.{Bool, true, false, cond, not, _&&_, _||_, false≢true}
 use mathlib.Core.List.{List}
 use mathlib.Core.Path.{_≡_, refl, sym, ap, ap₂, _∙_}
 use native.Mathlib.Omega.{arith}
-use lib.Dec.{eqb, leb, ltb}
+use lib.Dec.{eqb, ltb}
 use borrow.Author.Tests.{eq-eqb, eqb-true, eqb-false, lt-leb, ltb-true, not-true}
 use Rattle.lanes.proofs.FileFacts.{row-range}
 use Rattle.lanes.specs.Keys.{AcceptedFile}
@@ -26,7 +26,7 @@ use Rattle.rules.specs.declared.PositionRow.{PositionRow}
 use Rattle.rules.specs.declared.Series.{Series}
 use Rattle.rules.specs.declared.SeriesRow.{SeriesRow}
 use Rattle.rules.specs.declared.Spread.{Spread}
-use Rattle.rules.specs.declared.Spread.the-variants.{Barred, Margin}
+use Rattle.rules.specs.declared.Spread.the-variants.{Barred}
 
 kind-is : (k p : ℕ) → k ≤ 4 → kindOf (barrierOf k p) ≡ k
 kind-is zero p l = refl

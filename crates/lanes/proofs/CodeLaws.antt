@@ -13,7 +13,7 @@ use Rattle.lanes.proofs.FileFacts.{Ranged}
 use Rattle.lanes.proofs.KeyLaws.{newest}
 use Rattle.lanes.proofs.SortLaws.{sorted-least, sorted-more, sorted-skip}
 use Rattle.lanes.specs.Cursors.{UnitOf}
-use Rattle.lanes.specs.Keys.{Inserted, Least, SameBefore, Sorted, from, inLanes, key, low, nth, pairsAsHeld, slack, strikeIn, top}
+use Rattle.lanes.specs.Keys.{Inserted, LeastKey, SameBefore, Sorted, from, inLanes, key, linkFrom, nth, pairsAsHeld, slack, strikeIn, top}
 use Rattle.rules.specs.File.{Account, accountOf, positionOf, positionRow, sideOf}
 use Rattle.rules.specs.OnePosition.{unitMargin}
 use Rattle.rules.specs.Pairs.{isHeld}
@@ -50,22 +50,22 @@ module _ (b : List ℕ) (l : Layout) (o r : ℕ) (row : PositionRow) (is : row �
     pub key-out : (n : ℕ) (keys : List ℕ) → t ≡ false → Sorted (accountOf b l) o keys n r → Sorted (accountOf b l) o keys n (r + 1)
     key-out n keys e g = sorted-skip (accountOf b l) o keys n r g (sym lanes ∙ e)
 
-    pub low-in : (x : ℕ) → t ≡ true → x ≡ from (accountOf b l) o r → x + r + 1 ≡ low (accountOf b l) o r
-    low-in x e f = rw (sym lanes ∙ e, f)
+    pub link-from-in : (x : ℕ) → t ≡ true → x ≡ from (accountOf b l) o r → x + r + 1 ≡ linkFrom (accountOf b l) o r
+    link-from-in x e f = rw (sym lanes ∙ e, f)
 
-    pub low-out : (x y : ℕ) → t ≡ false → x ≡ from (accountOf b l) o r → y ≡ slack o → x + y ≡ low (accountOf b l) o r
-    low-out x y e f g = rw (sym lanes ∙ e, f, g)
+    pub link-from-out : (x y : ℕ) → t ≡ false → x ≡ from (accountOf b l) o r → y ≡ slack o → x + y ≡ linkFrom (accountOf b l) o r
+    link-from-out x y e f g = rw (sym lanes ∙ e, f, g)
 
 -- The links of the first n rows.
 abbrev pub LinksTo : Account → ℕ → List ℕ → ℕ → Type 0
-LinksTo a o links n = (r : ℕ) → r < n → Least (key a o) (a .positions) (low a o r) (nth links (o + r))
+LinksTo a o links n = (r : ℕ) → r < n → LeastKey (key a o) (a .positions) (linkFrom a o r) (nth links (o + r))
 
 pub links-more : (a : Account) → Ranged a → (o n x lo count : ℕ) (keys links : List ℕ) → o + n < length links
-    → Sorted a o keys count (a .positions) → lo ≡ low a o n → Least (nth keys) count lo x
+    → Sorted a o keys count (a .positions) → lo ≡ linkFrom a o n → LeastKey (nth keys) count lo x
     → LinksTo a o links n → LinksTo a o (set links (o + n) x) (n + 1)
 links-more a ok o n x lo count keys links l ks e x-is f r lr = go (newest r n lr)
   where
-    go : (r ≡ n) ⊎ (r < n) → Least (key a o) (a .positions) (low a o r) (nth (set links (o + n) x) (o + r))
+    go : (r ≡ n) ⊎ (r < n) → LeastKey (key a o) (a .positions) (linkFrom a o r) (nth (set links (o + n) x) (o + r))
     go (inl q) = rw (q, getD-set-same links (o + n) x 0 l, sym e) (sorted-least a ok o keys count lo x ks x-is)
     go (inr s) = rw (getD-set-other links (o + n) (o + r) x 0 (λ (q : o + r ≡ o + n). omega arith)) (f r s)
 

@@ -7,9 +7,9 @@ use mathlib.Core.Logic.{_⊎_, inl, inr}
 use mathlib.Core.Path.{_≡_, sym, subst, ap, _∙_}
 use native.Mathlib.Omega.{arith}
 use Rattle.lanes.proofs.FileFacts.{Ranged}
-use Rattle.lanes.proofs.KeyLaws.{key-below, key-is, key-row, key-some, low-is, split, top-most}
+use Rattle.lanes.proofs.KeyLaws.{key-below, key-is, key-row, key-some, link-from-is, split, top-most}
 use Rattle.lanes.specs.Cursors.{AtPair, Cursor, Kept, Open, Ranked}
-use Rattle.lanes.specs.Keys.{Least, Links, inLanes, key, low, none, nth, start, top}
+use Rattle.lanes.specs.Keys.{LeastKey, Links, inLanes, key, linkFrom, none, nth, start, top}
 use Rattle.lanes.specs.declared.Standing.{Standing}
 use Rattle.rules.proofs.Search.{allowed-is, is-allowed, still-allowed}
 use Rattle.rules.specs.File.{Account}
@@ -25,7 +25,7 @@ module _ (a : Account) (ok : Ranged a) (left : List ℕ) (w : ℕ) (lw : w < a .
       (record { written-below = lw; held-below = l; may-pair = m; written-left = x; held-left = y })
 
   -- The least key v from a bound `from` on, where no open pair of the row lies between its start and the bound.
-  from-least : (o lo v : ℕ) → start a o w ≤ lo → Least (key a o) (a .positions) lo v
+  from-least : (o lo v : ℕ) → start a o w ≤ lo → LeastKey (key a o) (a .positions) lo v
       → ((h : ℕ) → h < a .positions → Open a left w h → start a o w ≤ key a o h → lo ≤ key a o h)
       → Cursor a left o w v
   from-least o lo v s f skipped =
@@ -52,12 +52,12 @@ module _ (a : Account) (ok : Ranged a) (left : List ℕ) (w : ℕ) (lw : w < a .
     own : inLanes a (u % 256) ≡ true
     own = key-some a ok o (u % 256) (omega (arith, c .is-key t, top-most a ok o w lw))
 
-    bound : low a o (u % 256) ≡ u + 1
+    bound : linkFrom a o (u % 256) ≡ u + 1
     bound =
-        low-is a ok o (u % 256) own
+        link-from-is a ok o (u % 256) own
         ∙ ap (λ x. x + 1) (sym (key-is a ok o (u % 256) own) ∙ c .is-key t)
 
-    next : Least (key a o) (a .positions) (u + 1) (nth links (o + u % 256))
+    next : LeastKey (key a o) (a .positions) (u + 1) (nth links (o + u % 256))
     next = rw (sym bound) (f (u % 256) (c .row t))
 
     -- The row at u makes no open pair: the next key takes its place.

@@ -9,7 +9,7 @@ use native.Mathlib.Omega.{arith}
 use lib.Dec.{eqb, ltb}
 use borrow.Author.Tests.{ltb-false, ltb-true}
 use Rattle.lanes.proofs.FileFacts.{Ranged}
-use Rattle.lanes.specs.Keys.{Least, from, inLanes, key, lesserOf, low, none, strikeIn, top}
+use Rattle.lanes.specs.Keys.{LeastKey, from, inLanes, key, lesserOf, linkFrom, none, strikeIn, top}
 use Rattle.rules.proofs.MayPair.{may-pairable}
 use Rattle.rules.specs.File.{Account}
 use Rattle.rules.specs.Pairs.{mayOf}
@@ -24,7 +24,7 @@ split x y = go (ltb x y) refl
     go true e = inl (ltb-true x y e)
     go false e = inr (ltb-false x y e)
 
-pub least-none : (keys : ℕ → ℕ) (lo : ℕ) → Least keys 0 lo none
+pub least-none : (keys : ℕ → ℕ) (lo : ℕ) → LeastKey keys 0 lo none
 least-none keys lo =
     record {
       lowest = λ h (l : h < 0) e. absurd (omega arith);
@@ -33,10 +33,10 @@ least-none keys lo =
       most = omega arith;
     }
 
-pub least-more : (keys : ℕ → ℕ) (n y : ℕ) → Least keys n 0 y → Least keys (n + 1) 0 (lesserOf (keys n) y)
+pub least-more : (keys : ℕ → ℕ) (n y : ℕ) → LeastKey keys n 0 y → LeastKey keys (n + 1) 0 (lesserOf (keys n) y)
 least-more keys n y f = go (ltb (keys n) y) refl
   where
-    stays : y ≤ keys n → Least keys (n + 1) 0 y
+    stays : y ≤ keys n → LeastKey keys (n + 1) 0 y
     stays b =
         record {
           lowest = λ h l e. old h e (newest h n l);
@@ -49,7 +49,7 @@ least-more keys n y f = go (ltb (keys n) y) refl
         old h e (inl q) = rw q b
         old h e (inr l) = f .lowest h l e
 
-    takes : keys n < y → Least keys (n + 1) 0 (keys n)
+    takes : keys n < y → LeastKey keys (n + 1) 0 (keys n)
     takes b =
         record {
           lowest = λ h l e. old h e (newest h n l);
@@ -62,13 +62,13 @@ least-more keys n y f = go (ltb (keys n) y) refl
         old h e (inl q) = rw q (omega arith)
         old h e (inr l) = omega (arith, f .lowest h l e)
 
-    go : (t : Bool) → ltb (keys n) y ≡ t → Least keys (n + 1) 0 (cond t (keys n) y)
+    go : (t : Bool) → ltb (keys n) y ≡ t → LeastKey keys (n + 1) 0 (cond t (keys n) y)
     go true b = takes (ltb-true (keys n) y b)
     go false b = stays (ltb-false (keys n) y b)
 
 -- Keys that are the same have the same least.
 pub least-same : (keys keys′ : ℕ → ℕ) (n lo y : ℕ) → ((h : ℕ) → h < n → keys h ≡ keys′ h)
-    → Least keys n lo y → Least keys′ n lo y
+    → LeastKey keys n lo y → LeastKey keys′ n lo y
 least-same keys keys′ n lo y same f =
     record {
       lowest = λ h l e. omega (arith, same h l, f .lowest h l (omega (arith, same h l)));
@@ -93,8 +93,8 @@ module _ (a : Account) (ok : Ranged a) (o : ℕ) where
   pub key-is : (h : ℕ) → inLanes a h ≡ true → key a o h ≡ from a o h + h
   key-is h e = rw e
 
-  pub low-is : (h : ℕ) → inLanes a h ≡ true → low a o h ≡ from a o h + h + 1
-  low-is h e = rw e
+  pub link-from-is : (h : ℕ) → inLanes a h ≡ true → linkFrom a o h ≡ from a o h + h + 1
+  link-from-is h e = rw e
 
   pub key-some : (h : ℕ) → key a o h < none → inLanes a h ≡ true
   key-some h = go (inLanes a h) refl

@@ -12,7 +12,7 @@ use Rattle.lanes.proofs.CursorLaws.{open-if, open-may}
 use Rattle.lanes.proofs.FileFacts.{Ranged}
 use Rattle.lanes.proofs.KeyLaws.{key-below, key-is, may-lanes, split}
 use Rattle.lanes.specs.Cursors.{AllKept, AtOpen, Live, Open, Ranked, distanceTo, rankFrom}
-use Rattle.lanes.specs.Keys.{Least, from, none, nth, top}
+use Rattle.lanes.specs.Keys.{LeastKey, from, none, nth, top}
 use Rattle.rules.proofs.MayPair.{gap-down, gap-up}
 use Rattle.rules.proofs.PairOrder.{rank}
 use Rattle.rules.proofs.Search.{allowed-is, choice-ranked, none-choice}
@@ -169,7 +169,7 @@ written-row m g w h lw lh e = let up : m / 256 ≡ g * 256 + w = omega arith in 
 -- The least rank of all rows is the definition's choice.
 module _ (a : Account) (ok : Ranged a) (left list : List ℕ) (kept : AllKept a left list)
     (live : (w : ℕ) → w < a .positions → Live a left w (nth list w))
-    (m : ℕ) (least : Least (nth list) (a .positions) 0 m) where
+    (m : ℕ) (least : LeastKey (nth list) (a .positions) 0 m) where
   lowest : (v g : ℕ) → v < a .positions → g < a .positions → Open a left v g → m ≤ rank (bookOf a) v g
   lowest v g lv lg o = go (split (nth list v) none)
     where

@@ -14,7 +14,7 @@ use Rattle.lanes.proofs.CursorLaws.{cursor-starts, open-may}
 use Rattle.lanes.proofs.FileFacts.{ranged}
 use Rattle.lanes.proofs.KeyLaws.{least-more, least-same, newest}
 use Rattle.lanes.specs.Cursors.{AllKept, AtOpen, AtPair, BestRank, Cursor, Kept, Live, Open, Ranked, Renewed, Row, UnitOf, pairsAsWritten, standing}
-use Rattle.lanes.specs.Keys.{Least, Links, lesserOf, none, nth, pairsAsHeld}
+use Rattle.lanes.specs.Keys.{LeastKey, Links, lesserOf, none, nth, pairsAsHeld}
 use Rattle.lanes.specs.declared.Standing.{Standing}
 use Rattle.rules.proofs.MayPair.{may-pairable}
 use Rattle.rules.proofs.Search.{allowed-is}
@@ -177,7 +177,7 @@ module _ (a : Account) (left list : List ℕ) (w : ℕ) where
 pub record BestTo (a : Account) (left old list : List ℕ) (n y : ℕ) : Type 0 where
   pub kept : AllKept a left list
   pub live : (w : ℕ) → w < n → Live a left w (nth list w)
-  pub least : Least (nth list) n 0 y
+  pub least : LeastKey (nth list) n 0 y
   pub list-length : length list ≡ length old
 
 pub best-more : (a : Account) (left old list list′ : List ℕ) (n y r z : ℕ) → a .positions ≤ 256 → n < a .positions

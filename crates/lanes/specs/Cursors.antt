@@ -6,7 +6,7 @@ use mathlib.Core.List.{List}
 use mathlib.Core.Path.{_≡_}
 use lib.Dec.{ltb}
 use lib.ListN.{length}
-use Rattle.lanes.specs.Keys.{AcceptedFile, Least, Links, key, none, nth, start, top}
+use Rattle.lanes.specs.Keys.{AcceptedFile, LeastKey, Links, key, none, nth, start, top}
 use Rattle.lanes.specs.declared.Standing.{Standing}
 use Rattle.rules.proofs.PairOrder.{rank}
 use Rattle.rules.specs.File.{Account, seriesOfRow}
@@ -112,5 +112,5 @@ AllKept a left list = (w : ℕ) → w < a .positions → Kept a left w (standing
 pub record BestRank (a : Account) (left old list : List ℕ) (r : ℕ) : Type 0 where
   pub kept : AllKept a left list
   pub live : (w : ℕ) → w < a .positions → Live a left w (nth list w)
-  pub least : Least (nth list) (a .positions) 0 r
+  pub least : LeastKey (nth list) (a .positions) 0 r
   pub list-length : length list ≡ length old

@@ -63,15 +63,15 @@ abbrev pub start : Account → ℕ → ℕ → ℕ
 start a o r = from a o r + slack o
 
 -- Where the keys begin that row r has its link among: after its own key, for a row outside the lanes at its start.
-abbrev pub low : Account → ℕ → ℕ → ℕ
-low a o r = cond (inLanes a r) (from a o r + r + 1) (start a o r)
+abbrev pub linkFrom : Account → ℕ → ℕ → ℕ
+linkFrom a o r = cond (inLanes a r) (from a o r + r + 1) (start a o r)
 
 -- One number looked at: it replaces y where it is below y.
 abbrev pub lesserOf : ℕ → ℕ → ℕ
 lesserOf k y = cond (ltb k y) k y
 
 -- y is the least of the first n keys that are at least lo; none where there is no such key.
-pub record Least (keys : ℕ → ℕ) (n lo y : ℕ) : Type 0 where
+pub record LeastKey (keys : ℕ → ℕ) (n lo y : ℕ) : Type 0 where
   pub lowest : (h : ℕ) → h < n → lo ≤ keys h → y ≤ keys h
   pub at-least : y < none → lo ≤ y
   pub is-key : y < none → (h : ℕ) × (h < n) × (keys h ≡ y)
@@ -79,7 +79,7 @@ pub record Least (keys : ℕ → ℕ) (n lo y : ℕ) : Type 0 where
 
 -- The links of one lane: the next key after a row's own, or the first from its start.
 abbrev pub Links : Account → ℕ → List ℕ → Type 0
-Links a o links = (r : ℕ) → r < a .positions → Least (key a o) (a .positions) (low a o r) (nth links (o + r))
+Links a o links = (r : ℕ) → r < a .positions → LeastKey (key a o) (a .positions) (linkFrom a o r) (nth links (o + r))
 
 -- The first n numbers ascend.
 abbrev pub Ascending : List ℕ → ℕ → Type 0

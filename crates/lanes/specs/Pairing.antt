@@ -30,12 +30,6 @@ pub record PairAsked (b : List ℕ) (l : Layout) (left numbers : List ℕ) (k w 
   pub lefts : l .positions ≤ length left
   pub room : 5 * k + 5 ≤ length numbers
 
--- Line k written, the rest as it was.
-pub record FiveWritten (k w h q amount : ℕ) (old new : List ℕ) : Type 0 where
-  pub line-is : lineFrom new k ≡ record { kind = 1; first = w; second = h; third = q; fourth = amount }
-  pub before : (i : ℕ) → i < 5 * k → nth new i ≡ nth old i
-  pub after : (i : ℕ) → 5 * k + 5 ≤ i → nth new i ≡ nth old i
-
 -- One pair made and written as line k.
 pub record PairWritten (a : Account) (k w h : ℕ) (left₀ numbers₀ left numbers : List ℕ) (amount : ℕ) : Type 0 where
   pub amount-is : amount ≡ spreadAmount a (pairOf left₀ w h)

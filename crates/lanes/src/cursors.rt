@@ -9,7 +9,7 @@ ghost use lib.ListN.{length};
 ghost use mathlib.Core.Logic.{_⊎_};
 ghost use mathlib.Core.Path.{_≡_};
 ghost use Rattle.lanes.specs.Cursors.{AtOpen, AtPair, Cursor, Live, Ranked, Row, UnitOf, distanceTo, rankFrom};
-ghost use Rattle.lanes.specs.Keys.{AcceptedFile, Links, none, nth};
+ghost use Rattle.lanes.specs.Keys.{Links, none, nth};
 ghost use Rattle.rules.specs.File.{accountOf};
 ghost use Rattle.rules.specs.Pairs.{allowed, bookOf};
 

@@ -4,7 +4,7 @@ use rules::Layout;
 use rules::PositionRow;
 ghost use Prim.Native.Nat.{_+_, _≤_, _<_};
 ghost use mathlib.Core.Path.{_≡_};
-ghost use Rattle.lanes.specs.Keys.{AcceptedFile, from, low, pairsAsHeld, slack, strikeIn, top};
+ghost use Rattle.lanes.specs.Keys.{AcceptedFile, from, linkFrom, pairsAsHeld, slack, strikeIn, top};
 ghost use Rattle.rules.specs.File.{accountOf, positionOf};
 
 // What stands for no key, no rank and no distance.
@@ -51,9 +51,9 @@ pub fn row_top(file: &[u8], l: Layout, r: usize) -> u64
     (row.series as u64) * 1_099_511_627_776 + 1_099_511_627_776
 }
 
-pub fn row_low(file: &[u8], l: Layout, o: usize, r: usize) -> u64
+pub fn link_from(file: &[u8], l: Layout, o: usize, r: usize) -> u64
     requires { ⌜ AcceptedFile (now file) l × (r < l .positions) ⌝ }
-    ensures { λ x. ⌜ x ≡ low (accountOf (now (file .entry)) l) o r ⌝ }
+    ensures { λ x. ⌜ x ≡ linkFrom (accountOf (now (file .entry)) l) o r ⌝ }
 {
     if pairs_as_held(position_row(file, l, r)) {
         return row_from(file, l, o, r) + (r as u64) + 1;

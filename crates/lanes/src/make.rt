@@ -1,31 +1,20 @@
 // One pair made: its five numbers written, its two quantities lowered.
 use account::rows::position_row;
 use account::rows::series_row;
+use lines::put_line;
 use numbers::amount;
 use numbers::smaller;
 use rules::Layout;
+use rules::Line;
 use spreads::pair::spread_unit;
-ghost use Prim.Native.Nat.{ℕ, _+_, _*_, _≤_, _<_};
-ghost use lib.ListN.{length};
+ghost use Prim.Native.Nat.{_≤_, _<_};
 ghost use mathlib.Core.Bool.{true};
 ghost use mathlib.Core.Path.{_≡_};
-ghost use Rattle.lanes.specs.Keys.{AcceptedFile, nth};
-ghost use Rattle.lanes.specs.Pairing.{FiveWritten, PairAsked, PairWritten};
+ghost use Rattle.lanes.specs.Keys.{AcceptedFile};
+ghost use Rattle.lanes.specs.Pairing.{PairAsked, PairWritten};
 ghost use Rattle.rules.specs.File.{accountOf};
 ghost use Rattle.rules.specs.Lines.{spreadAmount};
 ghost use Rattle.rules.specs.Pairs.{mayOf};
-
-fn put_line(numbers: &mut [u64], k: usize, w: u64, h: u64, q: u64, amount: u64)
-    requires { ⌜ 5 * k + 5 ≤ length (now numbers) ⌝ }
-    ensures { λ _. ⌜ FiveWritten k w h q amount (now (numbers .entry)) (now (numbers .exit)) ⌝ }
-{
-    let at = 5 * k;
-    numbers[at] = 1;
-    numbers[at + 1] = w;
-    numbers[at + 2] = h;
-    numbers[at + 3] = q;
-    numbers[at + 4] = amount;
-}
 
 // The amount of a pair of q contracts: unit × M × q.
 fn pair_amount(file: &[u8], l: Layout, w: usize, h: usize, q: u64) -> u64
@@ -56,6 +45,13 @@ pub fn make_pair(
     let money = pair_amount(file, l, w, h, q);
     left[w] = x - q;
     left[h] = y - q;
-    put_line(numbers, k, w as u64, h as u64, q, money);
+    let line = Line {
+        kind: 1,
+        first: w as u64,
+        second: h as u64,
+        third: q,
+        fourth: money,
+    };
+    put_line(numbers, k, line);
     money
 }

@@ -13,7 +13,7 @@ ghost use lib.ListN.{length};
 ghost use mathlib.Core.Bool.{true};
 ghost use mathlib.Core.Path.{_≡_};
 ghost use Rattle.lanes.specs.Cursors.{AllKept, BestRank, BothLinks, Kept, Live, Renewed, Row, pairsAsWritten, standing};
-ghost use Rattle.lanes.specs.Keys.{AcceptedFile, Links, lesserOf, none, nth};
+ghost use Rattle.lanes.specs.Keys.{AcceptedFile, lesserOf, none, nth};
 ghost use Rattle.rules.specs.File.{accountOf, positionOf};
 
 fn pairs_as_written(r: PositionRow) -> bool

@@ -1,6 +1,7 @@
 -- Lines as plain numbers: five to a line, in the order of document 01, one line after the other.
-use Prim.Native.Nat.{ℕ, zero, suc, _+_, _*_}
+use Prim.Native.Nat.{ℕ, zero, suc, _+_, _*_, _≤_, _<_}
 use mathlib.Core.List.{List, [], _∷_, _++_}
+use mathlib.Core.Path.{_≡_}
 use lib.ListN.{getD}
 use Rattle.rules.specs.declared.Line.{Line}
 use Rattle.rules.specs.declared.MarginAnswer.{MarginAnswer}
@@ -26,3 +27,9 @@ linesFrom numbers (suc n) = linesFrom numbers n ++ (lineFrom numbers n ∷ [])
 abbrev pub lineCount : MarginAnswer → ℕ
 lineCount (Total n t) = n
 lineCount (NoTotal w i) = 0
+
+-- What writing line k leaves: that line, and the numbers before and after it as they were.
+pub record LineWritten (k : ℕ) (line : Line) (old new : List ℕ) : Type 0 where
+  pub line-is : lineFrom new k ≡ line
+  pub before : (i : ℕ) → i < 5 * k → getD new i 0 ≡ getD old i 0
+  pub after : (i : ℕ) → 5 * k + 5 ≤ i → getD new i 0 ≡ getD old i 0

@@ -3,7 +3,7 @@ use rules::Line;
 ghost use Prim.Native.Nat.{_+_, _*_, _≤_};
 ghost use lib.ListN.{length};
 ghost use mathlib.Core.Path.{_≡_};
-ghost use Rattle.lines.specs.LineNumbers.{lineFrom};
+ghost use Rattle.lines.specs.LineNumbers.{LineWritten, lineFrom};
 
 // Line i of the numbers.
 pub fn line_at(numbers: &[u64], i: usize) -> Line
@@ -18,4 +18,17 @@ pub fn line_at(numbers: &[u64], i: usize) -> Line
         third: numbers[at + 3],
         fourth: numbers[at + 4],
     }
+}
+
+// Line k written as five numbers.
+pub fn put_line(numbers: &mut [u64], k: usize, line: Line)
+    requires { ⌜ 5 * k + 5 ≤ length (now numbers) ⌝ }
+    ensures { λ _. ⌜ LineWritten k line (now (numbers .entry)) (now (numbers .exit)) ⌝ }
+{
+    let at = 5 * k;
+    numbers[at] = line.kind;
+    numbers[at + 1] = line.first;
+    numbers[at + 2] = line.second;
+    numbers[at + 3] = line.third;
+    numbers[at + 4] = line.fourth;
 }

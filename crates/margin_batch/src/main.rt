@@ -1,9 +1,9 @@
 // Reads many account files on standard input, each as its length in four little-endian bytes and then its bytes, and
-// writes each one's margin and an empty line. A file that is cut off ends the run. The space is one byte more than a file may have.
+// writes each one's margin and an empty line. A file that is cut off ends the run, and so do 1,000,000,000 files. The
+// space is one byte more than a file may have.
 use framing::Frame;
 use framing::next_file;
 use libc::STDOUT_FILENO;
-ghost use Prim.Native.Nat.{_≤_};
 ghost use lib.ListN.{length};
 ghost use mathlib.Core.Path.{_≡_};
 

@@ -11,9 +11,9 @@ use native.Mathlib.Omega.{arith}
 use lib.Dec.{ltb}
 use lib.ListN.{length, length-append}
 use borrow.Author.Tests.{le-ltb, lt-ltb}
-use Rattle.lines.specs.LineNumbers.{lineFrom, linesFrom}
+use Rattle.lines.specs.LineNumbers.{LineWritten, lineFrom, linesFrom}
 use Rattle.lanes.specs.Keys.{nth}
-use Rattle.pairing.specs.Listing.{Added, LineWritten, RowAsked, RowsAsked, leftAmountAt, leftOf}
+use Rattle.pairing.specs.Listing.{Added, RowAsked, RowsAsked, leftAmountAt, leftOf}
 use Rattle.pairing.specs.declared.Listed.{Listed}
 use Rattle.rules.proofs.LineLaws.{length-leftLines}
 use Rattle.rules.proofs.Sums.{sumOver-append, sumTo-more}
@@ -105,7 +105,7 @@ pub row-one : (a : Account) (left : ℕ → ℕ) (row m : ℕ) (n n′ : List �
 row-one a left row m n n′ t some e most w len =
     let z : ltb 0 (left row) ≡ true = lt-ltb 0 (left row) (omega arith) in
     let is = ap (leftEntry row (left row)) e in
-    rw z (added-one (leftLine a row (left row)) m n n′ t (record { line-is = w .line-is ∙ is; before = w .before }) len e most)
+    rw z (added-one (leftLine a row (left row)) m n n′ t (record { line-is = w .line-is ∙ is; before = w .before; after = w .after }) len e most)
 
 -- No row yet, and one row more.
 pub rows-none : (a : Account) (left : ℕ → ℕ) (n : List ℕ) (t : Listed) → Added (leftLines a left 0) n n t t

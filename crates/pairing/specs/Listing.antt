@@ -7,7 +7,7 @@ use lib.Dec.{ltb}
 use lib.ListN.{length}
 use Rattle.account.specs.Known.{Known}
 use Rattle.lanes.specs.Keys.{nth}
-use Rattle.lines.specs.LineNumbers.{lineFrom, linesFrom}
+use Rattle.lines.specs.LineNumbers.{linesFrom}
 use Rattle.pairing.specs.declared.Listed.{Listed}
 use Rattle.rules.specs.File.{Account, seriesOfRow}
 use Rattle.rules.specs.Lines.{heldPremium, leftAmount, leftLine, lineAmount, lines, sumOver, sumTo}
@@ -30,11 +30,6 @@ leftAmountAt a r q = leftAmount (a .positionAt r .side) (seriesOfRow a r) (a .po
 -- The line of row r, where it has contracts left.
 abbrev pub leftOf : Account → (ℕ → ℕ) → ℕ → List Line
 leftOf a left r = cond (ltb 0 (left r)) (leftLine a r (left r) ∷ []) []
-
--- Line k written, the lines before it as they were.
-pub record LineWritten (k : ℕ) (line : Line) (old new : List ℕ) : Type 0 where
-  pub line-is : lineFrom new k ≡ line
-  pub before : (i : ℕ) → i < 5 * k → nth new i ≡ nth old i
 
 -- The lines `extra` written after those of t₀, and their amounts added to its total.
 pub record Added (extra : List Line) (numbers₀ numbers : List ℕ) (t₀ t : Listed) : Type 0 where

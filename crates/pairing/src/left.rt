@@ -2,6 +2,7 @@
 use crate::Listed;
 use account::lookup::position_at;
 use account::lookup::series_of_position;
+use lines::put_line;
 use numbers::amount;
 use position::margin::unit_margin;
 use rules::Layout;
@@ -9,28 +10,14 @@ use rules::Line;
 use rules::Position;
 use rules::Series;
 use rules::Side;
-ghost use Prim.Native.Nat.{_+_, _*_, _≤_, _<_};
-ghost use lib.ListN.{length};
+ghost use Prim.Native.Nat.{_+_, _≤_, _<_};
 ghost use mathlib.Core.Path.{_≡_};
 ghost use Rattle.account.specs.Known.{Known};
 ghost use Rattle.lanes.specs.Keys.{nth};
-ghost use Rattle.pairing.specs.Listing.{Added, LineWritten, RowAsked, RowsAsked, leftAmountAt, leftOf};
+ghost use Rattle.pairing.specs.Listing.{Added, RowAsked, RowsAsked, leftAmountAt, leftOf};
 ghost use Rattle.position.specs.Fits.{RowFits};
 ghost use Rattle.rules.specs.File.{accountOf};
 ghost use Rattle.rules.specs.Lines.{leftAmount, leftLines};
-
-// Line k as five numbers.
-fn put_line(numbers: &mut [u64], k: usize, line: Line)
-    requires { ⌜ 5 * k + 5 ≤ length (now numbers) ⌝ }
-    ensures { λ _. ⌜ LineWritten k line (now (numbers .entry)) (now (numbers .exit)) ⌝ }
-{
-    let at = 5 * k;
-    numbers[at] = line.kind;
-    numbers[at + 1] = line.first;
-    numbers[at + 2] = line.second;
-    numbers[at + 3] = line.third;
-    numbers[at + 4] = line.fourth;
-}
 
 // The amount of q contracts left: a written position's margin, 0 for a held one.
 fn left_by_side(s: Series, p: Position, q: u64) -> u64

@@ -7,7 +7,6 @@ use position::amount::amount_for_row;
 use reading::print_number;
 use reading::print_refused;
 use rules::AmountAnswer;
-ghost use Prim.Native.Nat.{_≤_};
 ghost use lib.ListN.{length};
 ghost use mathlib.Core.Path.{_≡_};
 

@@ -13,10 +13,9 @@ use Rattle.rules.proofs.Sums.{each-map, sumOver-add, sumOver-most, sumO
 use Rattle.rules.proofs.Weights.{Sound, made-sound, weighed}
 use Rattle.rules.specs.File.{Account, seriesOfRow}
 use Rattle.rules.specs.Lines.{leftAmount, spreadAmount, spreadUnit, sumOver, sumTo}
-use Rattle.rules.specs.OnePosition.{amountOf, unitMargin}
+use Rattle.rules.specs.OnePosition.{amountOf, roundedUp, unitMargin}
 use Rattle.rules.specs.Pairs.{Made, available, bookOf, mayOf}
 use Rattle.rules.specs.Promises.{Cover, OnePathEach, bringsIn, paidOut, paymentOfRow, paysOut}
-use Rattle.rules.specs.Quantities.{roundedUp}
 use Rattle.rules.specs.Spreads.{unitSpread}
 use Rattle.rules.specs.declared.Position.{Position}
 use Rattle.rules.specs.declared.Series.{Series}

@@ -3,7 +3,7 @@
 use Prim.Native.Nat.{ℕ, _/_, _%_, _≤_, _<_}
 use mathlib.Core.Bool.{Bool, true, false, cond}
 use mathlib.Core.Logic.{_⊎_, inl, inr}
-use mathlib.Core.Path.{_≡_, refl}
+use mathlib.Core.Path.{_≡_}
 use lib.Dec.{ltb}
 use native.Mathlib.Nat.{eq-zero-or-pos, mul-le-mul}
 use native.Mathlib.Omega.{arith}
@@ -76,7 +76,7 @@ module _ {n : ℕ} {k : SeriesRow} {r : PositionRow} (s : SeriesWithin k) (w : P
       cond-case (λ (m : Limiter). limitOr m (high (seriesOf k)) ≤ 100_000_000_000_000) (limiterFlag (r .flags)) (At (r .pb)) NoLimiter
       (λ _. omega (arith, pb-most)) (λ _. high-most)
 
-  -- "unit ≤ 10^14": H at the largest PV and fa.
+  -- A unit margin is at most 10^14, H at the largest PV and fa.
   pub unit-most : unitMargin (seriesOf k) (positionOf r) ≤ 100_000_000_000_000
   unfolding unitMargin
   unit-most = by-flag (positionOf r .knocked)

@@ -1,15 +1,22 @@
--- The order of the checks, by computation: rows and files with two faults at once, of which the first wins, and one
--- accepted file with a cover sheet.
+-- The order of the checks, by computation: rows and files with two faults at once, of which the first wins, one accepted
+-- file with a cover sheet, and the refusals that come after the file.
 -- Assumes nothing.
-use Prim.Native.Nat.{ℕ, _+_, _*_, _/_, _%_}
+use Prim.Native.Nat.{ℕ, _/_, _%_}
 use mathlib.Core.List.{List, [], _∷_, _++_}
 use mathlib.Core.Path.{_≡_, refl}
 use Rattle.rules.specs.File.{layout, positionRow, seriesRow, span}
+use Rattle.rules.specs.Lines.{leftLines, lines, linesGiven, listAfter, marginAnswer, pairLines}
+use Rattle.rules.specs.OnePosition.{amountAnswer, positionAmount, unitMargin}
+use Rattle.rules.specs.Pairs.{along, leftAfter, madeAfter, mayOf, through}
 use Rattle.rules.specs.Refusals.{fileRead, matchedFault, positionRowFault, positionRows, refuse, rows, seriesRowFault, seriesRows, trailerFault}
+use Rattle.rules.specs.Spreads.{unitSpread}
+use Rattle.rules.specs.declared.AmountAnswer.the-variants.{Amount, NoAmount}
 use Rattle.rules.specs.declared.Fault.the-variants.{Clean, Found}
 use Rattle.rules.specs.declared.FileRead.the-variants.{Accepted, Refused}
+use Rattle.rules.specs.declared.Line.{Line}
+use Rattle.rules.specs.declared.MarginAnswer.the-variants.{NoTotal}
 use Rattle.rules.specs.declared.PositionRow.{PositionRow}
-use Rattle.rules.specs.declared.Refusal.the-variants.{FileSize, Trailer, NoPositions, Distance, SeriesRange, SeriesType, PositionTerms, PositionRange, LimiterPrice, BarrierPrice, BarrierSide}
+use Rattle.rules.specs.declared.Refusal.the-variants.{FileSize, Trailer, NoPositions, Distance, SeriesRange, SeriesType, PositionTerms, PositionRange, LimiterPrice, BarrierPrice, BarrierSide, ListTooShort, RowAskedFor}
 use Rattle.rules.specs.declared.SeriesRow.{SeriesRow}
 
 -- A call series row with the PV, type and spare number given.
@@ -124,3 +131,34 @@ pub file-order :
     × (fileRead (255 ∷ 1 ∷ 2 ∷ file 3000 0 (positionBytes 1 0 1 3001 ++ positionBytes 2 0 1 2999)) ≡ Accepted (record { series = 2; positions = 2; start = 3; middle = 51 }))
 unfolding fileRead layout seriesRow positionRow seriesRows positionRows rows trailerFault seriesRowFault positionRowFault matchedFault refuse
 file-order = (refl, refl, refl, refl, refl, refl, refl, refl, refl, refl, refl, refl)
+
+-- Two written rows within the limits, and one row by itself.
+abbrev two : List ℕ
+two = file 3000 0 (positionBytes 0 0 1 0 ++ positionBytes 0 0 1 0)
+
+abbrev one : List ℕ
+one = seriesBytes 3000 0 ++ positionBytes 0 0 1 0 ++ trailerBytes 1 1 (span 1 1) 0
+
+abbrev entry : ℕ → Line
+entry n = record { kind = n; first = n; second = n; third = n; fourth = n }
+
+-- The list and the row asked for come after the file.
+pub later-refusals :
+    -- 2 before 12 and before 13
+    (marginAnswer (trailerBytes 0 0 12 0) 0 ≡ NoTotal Trailer 0)
+    × (amountAnswer (trailerBytes 0 0 12 0) 9 ≡ NoAmount Trailer 0)
+    -- 12: "list has fewer than p entries"; they keep their content
+    × (marginAnswer two 1 ≡ NoTotal ListTooShort 0)
+    × (listAfter two (entry 7 ∷ []) ≡ entry 7 ∷ [])
+    -- 13: "row p or above"; row 1 has 500 ticks × 5 centavos
+    × (amountAnswer two 2 ≡ NoAmount RowAskedFor 0)
+    × (amountAnswer two 1 ≡ Amount 2_500)
+unfolding marginAnswer amountAnswer listAfter linesGiven fileRead layout seriesRow positionRow seriesRows positionRows rows trailerFault seriesRowFault positionRowFault matchedFault refuse positionAmount unitMargin
+later-refusals = (refl, refl, refl, refl, refl, refl)
+
+-- "entries after it stay": a list of two entries for one line.
+pub entries-stay :
+    listAfter one (entry 7 ∷ entry 8 ∷ [])
+    ≡ record { kind = 2; first = 0; second = 1; third = 2_500; fourth = 0 } ∷ entry 8 ∷ []
+unfolding marginAnswer listAfter linesGiven lines leftLines pairLines leftAfter madeAfter through along mayOf unitSpread fileRead layout seriesRow positionRow seriesRows positionRows rows trailerFault seriesRowFault positionRowFault matchedFault refuse unitMargin
+entries-stay = refl

@@ -1,9 +1,14 @@
 -- Demand 3 of document 01, over the bytes of every file: four theorems, each after the bullet of document 01 ("Demand 3
--- means this, for every accepted file") that it states. The statements are in specs/Promises.antt.
+-- means this, for every accepted file") that it states, and one that ties them to the answer of the operation. The
+-- statements are in specs/Promises.antt.
 -- Assumes nothing.
 use Prim.Native.Nat.{ℕ, _+_, _≤_}
+use mathlib.Core.Bool.{Bool, true, false, cond}
 use mathlib.Core.List.{List}
-use mathlib.Core.Path.{_≡_, ap, sym, subst}
+use mathlib.Core.Path.{_≡_, refl, ap, ap₂, sym, subst}
+use native.Mathlib.Omega.{arith}
+use lib.Dec.{ltb}
+use lib.ListN.{length}
 use Rattle.rules.proofs.AccountCover as AccountCover
 use Rattle.rules.proofs.Cover.{covers}
 use Rattle.rules.proofs.Least.{least-for}
@@ -14,8 +19,14 @@ use Rattle.rules.proofs.Reading.{accepted-within}
 use Rattle.rules.proofs.RowFacts.{beside, rebate-none}
 use Rattle.rules.specs.File.{Account, accountOf, layout, positionOf, positionRow, seriesOf, seriesOfRow, seriesRow}
 use Rattle.rules.specs.Limits.{FileWithin}
+use Rattle.rules.specs.Lines.{lines, linesFor, linesGiven, marginAnswer, marginForList, total}
 use Rattle.rules.specs.Paths.{payment}
 use Rattle.rules.specs.Promises.{ContractsDemand, Cover, CoverDemand, Least, LeastDemand, LowFactors, UnmadeDemand}
+use Rattle.rules.specs.Refusals.{accepted, fileRead, meaning, meant}
+use Rattle.rules.specs.declared.FileRead.{FileRead}
+use Rattle.rules.specs.declared.FileRead.the-variants.{Accepted, Refused}
+use Rattle.rules.specs.declared.MarginAnswer.the-variants.{NoTotal, Total}
+use Rattle.rules.specs.declared.Refusal.the-variants.{ListTooShort}
 
 -- Row by row, of a file within its limits.
 module _ (b : List ℕ) (h : FileWithin b) (factors : LowFactors (accountOf b (layout b))) where
@@ -78,3 +89,24 @@ pub least : (b : List ℕ) → LeastDemand b
 least b a e factors =
     let known = accepted-within b a e in
     subst Least (sym (known .1)) (least-within b (known .0) (subst LowFactors (known .1) factors))
+
+-- What the operation answers is what the four theorems speak of: where it gives a line count and a total, the file is
+-- accepted, and they and the lines written are its account's.
+pub answered : (b : List ℕ) (n count sum : ℕ) → marginAnswer b n ≡ Total count sum
+    → (a : Account) × (meaning b ≡ accepted a) × (count ≡ length (lines a)) × (sum ≡ total a) × (linesGiven b n ≡ lines a)
+unfolding marginAnswer linesGiven meaning
+answered b n count sum e = by-reading (fileRead b) refl e
+  where
+    by-reading : (x : FileRead) → fileRead b ≡ x → marginForList b n x ≡ Total count sum
+        → (a : Account) × (meaning b ≡ accepted a) × (count ≡ length (lines a)) × (sum ≡ total a) × (linesGiven b n ≡ lines a)
+    by-reading (Refused w i) r q = let z : _≡_ {A = ℕ} 0 1 = cc in absurd (omega arith)
+    by-reading (Accepted l) r q = by-room (ltb n (l .positions)) q
+      where
+        by-room : (t : Bool)
+            → cond t (NoTotal ListTooShort 0) (Total (length (lines (accountOf b l))) (total (accountOf b l))) ≡ Total count sum
+            → (a : Account) × (meaning b ≡ accepted a) × (count ≡ length (lines a)) × (sum ≡ total a) × (linesGiven b n ≡ lines a)
+        by-room true p = let z : _≡_ {A = ℕ} 0 1 = cc in absurd (omega arith)
+        by-room false p =
+            let c : count ≡ length (lines (accountOf b l)) = cc in
+            let s : sum ≡ total (accountOf b l) = cc in
+            (accountOf b l, ap (meant b) r, c, s, ap₂ (linesFor b) r e)

@@ -1,17 +1,16 @@
 -- A position row without fault is one within its limits, and the other way round.
 -- Assumes nothing.
-use Prim.Native.Nat.{ℕ, _/_, _%_, _≤_, _<_}
+use Prim.Native.Nat.{ℕ, _/_, _%_, _≤_}
 use mathlib.Core.Bool.{Bool, true, false, not, _&&_, _||_, or-true}
 use mathlib.Core.Logic.{_⊎_, inl, inr}
-use mathlib.Core.Path.{_≡_, refl, sym, _∙_, ap}
+use mathlib.Core.Path.{_≡_, refl, ap}
 use native.Mathlib.Omega.{arith}
-use borrow.Author.Tests.{eq-eqb, eqb-true, eqb-false, le-leb, le-ltb, leb-false, lt-leb, ltb-false, ne-eqb, not-true}
+use borrow.Author.Tests.{eq-eqb, eqb-true, eqb-false, le-ltb, leb-false, lt-leb, ltb-false, ne-eqb, not-true}
 use lib.Dec.{eqb, leb, ltb}
 use Rattle.rules.specs.File.{knockedInFlag, limiterFlag}
 use Rattle.rules.specs.Limits.{PositionWithin}
 use Rattle.rules.specs.Refusals.{matchedFault, nonzero, outside, positionRowFault, refuse, wrongBarrierPrice, wrongBarrierSide, wrongFlags, wrongLimiter, wrongRange, wrongTerms}
-use Rattle.rules.specs.declared.Fault.{Fault}
-use Rattle.rules.specs.declared.Fault.the-variants.{Clean, Found}
+use Rattle.rules.specs.declared.Fault.the-variants.{Clean}
 use Rattle.rules.specs.declared.PositionRow.{PositionRow}
 use Rattle.rules.specs.declared.Refusal.the-variants.{PositionTerms, PositionRange, LimiterPrice, BarrierPrice, BarrierSide}
 use Rattle.rules.specs.declared.SeriesRow.{SeriesRow}

@@ -1,14 +1,14 @@
 -- Laws of the reading: a file within the limits is accepted, an accepted file is within them, and a refused row is the
 -- first faulty one.
 -- Assumes nothing.
-use Prim.Native.Nat.{ℕ, _<_}
+use Prim.Native.Nat.{ℕ}
 use mathlib.Core.List.{List}
 use mathlib.Core.Logic.{_⊎_, inl, inr}
 use mathlib.Core.Path.{_≡_, refl, sym, _∙_, ap, subst}
 use native.Mathlib.Omega.{arith}
 use Rattle.rules.specs.File.{Account, accountOf, layout, positionCount, positionRow, seriesCount, seriesRow}
-use Rattle.rules.specs.Limits.{FileWithin, PositionWithin, SeriesWithin, TrailerWithin}
-use Rattle.rules.specs.Refusals.{Meaning, accepted, fileRead, meaning, meant, number, orElse, positionFault, positionRows, refused, rows, seriesFault, seriesRows, trailerFault}
+use Rattle.rules.specs.Limits.{FileWithin}
+use Rattle.rules.specs.Refusals.{accepted, fileRead, meaning, meant, number, orElse, positionFault, positionRows, refused, seriesFault, seriesRows, trailerFault}
 use Rattle.rules.specs.declared.Fault.{Fault}
 use Rattle.rules.specs.declared.Fault.the-variants.{Clean, Found}
 use Rattle.rules.specs.declared.FileRead.{FileRead}
@@ -49,7 +49,8 @@ module _ (b : List ℕ) where
       ∙ after-series (h .series)
       ∙ rows-clean (positionFault b (layout b)) (positionCount b) (Accepted (layout b)) (h .positions)
 
-  fault-read : (w : Refusal) (row : ℕ) → FirstFault b w row → fileRead b ≡ Refused w row
+  -- A file is refused for its first fault.
+  pub fault-read : (w : Refusal) (row : ℕ) → FirstFault b w row → fileRead b ≡ Refused w row
   unfolding fileRead seriesRows positionRows layout
   fault-read w row (in-trailer z t) =
       ap (λ (x : Fault). orElse x 0 (seriesRows b (layout b))) t ∙ ap (Refused w) (sym z)
@@ -98,7 +99,7 @@ module _ (b : List ℕ) where
             position-within (seriesCount b) (seriesRow b (layout b) (positionRow b (layout b) i .series)) (positionRow b (layout b) i) (h .positions i l);
       }
 
-  -- "A file that keeps the limits of document 01 is accepted .. whatever its rows hold."
+  -- A file that keeps the limits of document 01 is accepted, whatever its rows hold.
   pub within-read : FileWithin b → fileRead b ≡ Accepted (layout b)
   within-read h = faultless-read (within-faultless h)
 
@@ -143,6 +144,10 @@ module _ (b : List ℕ) where
           let p : v ≡ w = cc in
           let q : i ≡ row = cc in
           subst (λ (x : ℕ). FirstFault b w x) q (subst (λ (x : Refusal). FirstFault b x i) p f)
+
+  pub fault-refused : (w : Refusal) (row : ℕ) → FirstFault b w row → meaning b ≡ refused (number w) row
+  unfolding meaning
+  fault-refused w row f = ap (meant b) (fault-read w row f)
 
   pub refused-first : (n row : ℕ) → meaning b ≡ refused n row → (w : Refusal) × (number w ≡ n) × FirstFault b w row
   unfolding meaning

@@ -1,6 +1,6 @@
 -- A table's rows: clean to the end, or a first faulty row, and what `rows` gives of either.
 -- Assumes nothing.
-use Prim.Native.Nat.{ℕ, zero, suc, _+_, _≤_, _<_}
+use Prim.Native.Nat.{ℕ, zero, suc, _<_}
 use mathlib.Core.Logic.{_⊎_, inl, inr}
 use mathlib.Core.Path.{_≡_, refl, sym, _∙_, ap, subst}
 use native.Mathlib.Nat.{eq-or-lt-of-le, le-of-suc-le-suc, not-suc-le-zero}
@@ -9,7 +9,7 @@ use Rattle.rules.specs.Refusals.{orElse, rows}
 use Rattle.rules.specs.declared.Fault.{Fault}
 use Rattle.rules.specs.declared.Fault.the-variants.{Clean, Found}
 use Rattle.rules.specs.declared.FileRead.{FileRead}
-use Rattle.rules.specs.declared.FileRead.the-variants.{Accepted, Refused}
+use Rattle.rules.specs.declared.FileRead.the-variants.{Refused}
 use Rattle.rules.specs.declared.Refusal.{Refusal}
 
 -- Rows 0 to n - 1 are without fault.

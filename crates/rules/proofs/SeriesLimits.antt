@@ -1,22 +1,15 @@
 -- A series row without fault is one within its limits, and the other way round.
 -- Assumes nothing.
-use Prim.Native.Nat.{ℕ, _/_, _%_, _≤_, _<_}
-use mathlib.Core.Bool.{Bool, true, false, not, _&&_, _||_}
-use mathlib.Core.Logic.{_⊎_, inl, inr}
-use mathlib.Core.Path.{_≡_, refl, sym, _∙_, ap}
-use native.Mathlib.Omega.{arith}
-use borrow.Author.Tests.{eq-eqb, eqb-true, eqb-false, le-leb, le-ltb, leb-false, lt-leb, ltb-false, ne-eqb}
-use lib.Dec.{eqb, leb, ltb}
-use Rattle.rules.specs.File.{knockedInFlag, limiterFlag}
-use Rattle.rules.specs.Limits.{PositionWithin, SeriesWithin}
-use Rattle.rules.specs.Refusals.{matchedFault, nonzero, outside, positionRowFault, refuse, seriesRowFault, wrongBarrierPrice, wrongBarrierSide, wrongFlags, wrongLimiter, wrongRange, wrongSeriesRange, wrongSeriesType, wrongTerms}
-use Rattle.rules.specs.declared.Fault.{Fault}
-use Rattle.rules.specs.declared.Fault.the-variants.{Clean, Found}
-use Rattle.rules.specs.declared.PositionRow.{PositionRow}
-use Rattle.rules.specs.declared.Refusal.the-variants.{SeriesRange, SeriesType, PositionTerms, PositionRange, LimiterPrice, BarrierPrice, BarrierSide}
+use mathlib.Core.Path.{_≡_, refl}
+use borrow.Author.Tests.{le-ltb, ltb-false}
+use lib.Dec.{ltb}
+use Rattle.rules.specs.Limits.{SeriesWithin}
+use Rattle.rules.specs.Refusals.{nonzero, outside, refuse, seriesRowFault, wrongSeriesRange, wrongSeriesType}
+use Rattle.rules.specs.declared.Fault.the-variants.{Clean}
+use Rattle.rules.specs.declared.Refusal.the-variants.{SeriesRange, SeriesType}
 use Rattle.rules.specs.declared.SeriesRow.{SeriesRow}
-use Rattle.rules.proofs.Chain.{clean, five-fail, in-range, inside, is-zero, none-of-five, none-of-three, passed, three-fail, zero-is}
-use Rattle.rules.proofs.Tests.{both-fail, neither, not-both, one-fails}
+use Rattle.rules.proofs.Chain.{clean, five-fail, in-range, inside, is-zero, none-of-five, passed, zero-is}
+use Rattle.rules.proofs.Tests.{both-fail, neither}
 
 pub series-within : (r : SeriesRow) → seriesRowFault r ≡ Clean → SeriesWithin r
 unfolding seriesRowFault

@@ -100,19 +100,6 @@ positionRowFrom b at =
 unfoldable pub positionRow : List ℕ → Layout → ℕ → PositionRow
 positionRow b l i = positionRowFrom b (l .middle + 32 * i)
 
--- "Flags: 1 already knocked in .. 2 has a limiter, 4 European, 8 opened before the annex"
-abbrev pub knockedInFlag : ℕ → Bool
-knockedInFlag flags = eqb (flags % 2) 1
-
-abbrev pub limiterFlag : ℕ → Bool
-limiterFlag flags = eqb (flags / 2 % 2) 1
-
-abbrev pub europeanFlag : ℕ → Bool
-europeanFlag flags = eqb (flags / 4 % 2) 1
-
-abbrev pub oldFlag : ℕ → Bool
-oldFlag flags = eqb (flags / 8 % 2) 1
-
 -- "type u8, 0 call, 1 put"
 abbrev pub optionOf : ℕ → OptionType
 optionOf n = cond (eqb n 0) Call Put
@@ -127,6 +114,20 @@ barrierOf kind price =
     cond (eqb kind 1) (UpIn price)
     (cond (eqb kind 2) (DownIn price) (cond (eqb kind 3) (UpOut price) (cond (eqb kind 4) (DownOut price) NoBarrier)))
 
+-- "Flags: 1 already knocked in .. 2 has a limiter, 4 European, 8 opened before the annex"
+abbrev pub knockedInFlag : ℕ → Bool
+knockedInFlag flags = eqb (flags % 2) 1
+
+abbrev pub limiterFlag : ℕ → Bool
+limiterFlag flags = eqb (flags / 2 % 2) 1
+
+abbrev pub europeanFlag : ℕ → Bool
+europeanFlag flags = eqb (flags / 4 % 2) 1
+
+abbrev pub oldFlag : ℕ → Bool
+oldFlag flags = eqb (flags / 8 % 2) 1
+
+-- "Without the limiter flag PB is 0. With it" PB is the limiter.
 abbrev pub limiterOf : ℕ → ℕ → Limiter
 limiterOf flags pb = cond (limiterFlag flags) (At pb) NoLimiter
 

@@ -1,4 +1,4 @@
--- The definitions of document 01, one file for each of its sections, in its order.
+-- The definitions of document 01, in its order; a long section has two or three files.
 pub mod Quantities
 pub mod File
 pub mod Limits

@@ -1,11 +1,11 @@
 -- Document 01, One position (annex sections 1 to 4).
-use Prim.Native.Nat.{ℕ, _*_, _-_, min, max}
+use Prim.Native.Nat.{ℕ, _+_, _*_, _-_, _/_, min, max}
 use mathlib.Core.Bool.{Bool, true, false, cond}
 use mathlib.Core.List.{List}
 use lib.Dec.{leb, ltb}
 use lib.IntN.{ℤ, pos, negℤ}
 use Rattle.rules.specs.File.{Account, accountOf, seriesOfRow}
-use Rattle.rules.specs.Quantities.{fine, high, low, minimum, roundedUp}
+use Rattle.rules.specs.Quantities.{fine, high, low, minimum}
 use Rattle.rules.specs.Refusals.{fileRead, number}
 use Rattle.rules.specs.declared.AmountAnswer.{AmountAnswer}
 use Rattle.rules.specs.declared.AmountAnswer.the-variants.{Amount, NoAmount}
@@ -68,41 +68,39 @@ callPayoff s p h = min (callLimit s p) h - fine (p .pe)
 abbrev pub putPayoff : Series → Position → ℕ → ℕ
 putPayoff s p l = fine (p .pe) - max (putLimit s p) l
 
--- "max(MM; REB)"
+-- max(MM; REB)
 abbrev pub orRebate : Series → Position → ℕ
 orRebate s p = max (minimum s) (rebate p)
 
--- "max(MM; x)"
+-- max(MM; x), the maximums with MM and without REB
 abbrev pub orMinimum : Series → ℕ → ℕ
 orMinimum s x = max (minimum s) x
 
--- "max(MM; REB; x)"
+-- max(MM; REB; x), the maximums with both
 abbrev pub orEither : Series → Position → ℕ → ℕ
 orEither s p x = max (minimum s) (max (rebate p) x)
 
 -- The unit margin of a written call, by its barrier.
 abbrev pub callUnit : Barrier → Series → Position → ℕ
--- "Otherwise max(MM; REB; C)"
-callUnit NoBarrier s p = orEither s p (callPayoff s p (high s))
 -- "Up-and-in with H < IU .. max(MM; REB)", otherwise max(MM; REB; C)
 callUnit (UpIn iu) s p =
     cond (ltb (high s) (fine iu)) (orRebate s p) (orEither s p (callPayoff s p (high s)))
 -- "down-and-in with L > ID: max(MM; REB)"; "Call, down-and-in, L ≤ ID: from here H is ID × fa"
 callUnit (DownIn id) s p =
     cond (ltb (fine id) (low s)) (orRebate s p) (orEither s p (callPayoff s p (id * s .fa)))
--- "Up-and-out call: H < OU gives max(MM; C), else max(MM; REB; min(PB; OU) − PE)"
-callUnit (UpOut ou) s p =
-    cond (ltb (high s) (fine ou)) (orMinimum s (callPayoff s p (high s)))
-    (orEither s p (callPayoff s p (fine ou)))
 -- "Down-and-out call: L > OD gives max(MM; C), else max(MM; REB; C)"
 callUnit (DownOut od) s p =
     cond (ltb (fine od) (low s)) (orMinimum s (callPayoff s p (high s)))
     (orEither s p (callPayoff s p (high s)))
+-- "Up-and-out call: H < OU gives max(MM; C), else max(MM; REB; min(PB; OU) − PE)"
+callUnit (UpOut ou) s p =
+    cond (ltb (high s) (fine ou)) (orMinimum s (callPayoff s p (high s)))
+    (orEither s p (callPayoff s p (fine ou)))
+-- "Otherwise max(MM; REB; C)"
+callUnit NoBarrier s p = orEither s p (callPayoff s p (high s))
 
 -- The unit margin of a written put, by its barrier.
 abbrev pub putUnit : Barrier → Series → Position → ℕ
--- "Otherwise .. max(MM; REB; P)"
-putUnit NoBarrier s p = orEither s p (putPayoff s p (low s))
 -- "Up-and-in with H < IU .. max(MM; REB)"; "Put, up-and-in, H ≥ IU: from here L is IU × fb"
 putUnit (UpIn iu) s p =
     cond (ltb (high s) (fine iu)) (orRebate s p) (orEither s p (putPayoff s p (iu * s .fb)))
@@ -117,7 +115,10 @@ putUnit (UpOut ou) s p =
 putUnit (DownOut od) s p =
     cond (ltb (fine od) (low s)) (orMinimum s (putPayoff s p (low s)))
     (orEither s p (putPayoff s p (fine od)))
+-- "Otherwise .. max(MM; REB; P)"
+putUnit NoBarrier s p = orEither s p (putPayoff s p (low s))
 
+-- The rules of the series' type.
 abbrev pub unitBy : OptionType → Barrier → Series → Position → ℕ
 unitBy Call bar s p = callUnit bar s p
 unitBy Put bar s p = putUnit bar s p
@@ -125,6 +126,10 @@ unitBy Put bar s p = putUnit bar s p
 -- "Written, unit margin in fine units, first rule that applies", after flag 1.
 unfoldable pub unitMargin : Series → Position → ℕ
 unitMargin s p = unitBy (s .option) (normal p .barrier) s (normal p)
+
+-- "divided by 1,000,000 and rounded up once": from fine units times M and contracts to whole centavos.
+abbrev pub roundedUp : ℕ → ℕ
+roundedUp x = (x + 999_999) / 1_000_000
 
 -- "unit × M × Q, divided by 1,000,000 and rounded up once"
 abbrev pub amountOf : ℕ → ℕ → ℕ → ℕ
@@ -139,6 +144,7 @@ abbrev pub amountBySide : Side → Series → Position → ℕ
 amountBySide Held s p = premiumOf s p
 amountBySide Written s p = amountOf (unitMargin s p) (s .m) (p .q)
 
+-- The amount of position row r.
 unfoldable pub positionAmount : Account → ℕ → ℕ
 positionAmount a r = amountBySide (a .positionAt r .side) (seriesOfRow a r) (a .positionAt r)
 
@@ -149,6 +155,7 @@ amountForRow b row (Refused w i) = NoAmount w i
 amountForRow b row (Accepted l) =
     cond (leb (l .positions) row) (NoAmount RowAskedFor 0) (Amount (positionAmount (accountOf b l) row))
 
+-- The answer of the call for one position.
 unfoldable pub amountAnswer : List ℕ → ℕ → AmountAnswer
 amountAnswer b row = amountForRow b row (fileRead b)
 

@@ -15,6 +15,7 @@ use Rattle.rules.specs.declared.Side.the-variants.{Held, Written}
 use Rattle.rules.specs.declared.Spread.{Spread}
 use Rattle.rules.specs.declared.Spread.the-variants.{Barred, Margin}
 
+-- "one held and one written row"
 abbrev pub isWritten : Side → Bool
 isWritten Held = false
 isWritten Written = true
@@ -53,12 +54,14 @@ pub record Book : Type 0 where
   pub may : ℕ → ℕ → Bool
   pub gap : ℕ → ℕ → ℕ
 
+-- The two of an account: whether rows w and h pair, and their strike difference.
 unfoldable pub mayOf : Account → ℕ → ℕ → Bool
 mayOf a w h = mayPair (seriesOfRow a w) (a .positionAt w) (a .positionAt h)
 
 unfoldable pub gapOf : Account → ℕ → ℕ → ℕ
 gapOf a w h = strikeDifference (a .positionAt w) (a .positionAt h)
 
+-- An account as pairing looks at it.
 abbrev pub bookOf : Account → Book
 bookOf a = record { rows = a .positions; may = mayOf a; gap = gapOf a }
 
@@ -74,6 +77,7 @@ ahead k w h v g =
     ltb (k .gap w h) (k .gap v g)
     || (eqb (k .gap w h) (k .gap v g) && (ltb w v || (eqb w v && ltb h g)))
 
+-- Whether a pair comes before the best so far; the first one does.
 abbrev pub aheadOf : Book → ℕ → ℕ → Choice → Bool
 aheadOf k w h NoPair = true
 aheadOf k w h (Pair v g) = ahead k w h v g
@@ -107,6 +111,7 @@ pub record Made : Type 0 where
   pub held : ℕ
   pub quantity : ℕ
 
+-- The pair that a choice makes, if it is one.
 abbrev pub madeBy : (ℕ → ℕ) → Choice → List Made
 madeBy left NoPair = []
 madeBy left (Pair w h) = record { written = w; held = h; quantity = min (left w) (left h) } ∷ []
@@ -130,5 +135,6 @@ available a r = a .positionAt r .q
 abbrev pub pairsMade : Account → List Made
 pairsMade a = madeAfter (bookOf a) (a .positions) (available a)
 
+-- The contracts left in each row after all pairs.
 abbrev pub contractsLeft : Account → ℕ → ℕ
 contractsLeft a = leftAfter (bookOf a) (a .positions) (available a)

@@ -1,6 +1,6 @@
 -- Document 01, Paths: paths, touch and payment.
 use Prim.Native.Nat.{ℕ, _*_, _-_, _≤_, min, max}
-use mathlib.Core.Bool.{Bool, true, false, cond, _||_}
+use mathlib.Core.Bool.{Bool, false, cond, _||_}
 use mathlib.Core.List.{List, [], _∷_}
 use lib.Dec.{leb}
 use Rattle.rules.specs.OnePosition.{normal, rebate}
@@ -41,6 +41,7 @@ atOrAbove price x = leb (fine price) x
 abbrev pub atOrBelow : ℕ → ℕ → Bool
 atOrBelow price x = leb x (fine price)
 
+-- Whether a barrier is touched by a price of the list.
 abbrev pub touched : (ℕ → Bool) → List ℕ → Bool
 touched touches [] = false
 touched touches (x ∷ l) = touches x || touched touches l
@@ -75,6 +76,7 @@ inPayment k touches p l = cond (touched touches l) (payoff k p (last l)) (rebate
 abbrev pub outPayment : OptionType → (ℕ → Bool) → Position → List ℕ → ℕ
 outPayment k touches p l = cond (touched touches l) (rebate p) (payoff k p (last l))
 
+-- What a normalised position pays, by its barrier.
 abbrev pub paid : OptionType → Barrier → Position → List ℕ → ℕ
 paid k NoBarrier p l = payoff k p (last l)
 paid k (UpIn iu) p l = inPayment k (atOrAbove iu) p l

@@ -1,6 +1,6 @@
 -- Document 01, Paths: "Demand 3 means this, for every accepted file", each of its four bullets as a type.
 use Prim.Native.Nat.{ℕ, _+_, _*_, _-_, _≤_, _<_}
-use mathlib.Core.Bool.{Bool, true, false, cond, _&&_, _||_}
+use mathlib.Core.Bool.{false, cond, _&&_, _||_}
 use mathlib.Core.List.{List}
 use mathlib.Core.Path.{_≡_}
 use lib.Dec.{eqb}
@@ -66,7 +66,8 @@ abbrev pub Contracts : Account → Type 0
 Contracts a =
     (r : ℕ) → r < a .positions → sumOver (pairQuantity r) (lines a) + sumOver (leftQuantity r) (lines a) ≡ a .positionAt r .q
 
--- "with the contracts left in a row being Q less the quantities of the pair lines that name it"
+-- "with the contracts left in a row being Q less the quantities of the pair lines that name it", which by Contracts are
+-- at most Q.
 abbrev pub unpaired : Account → ℕ → ℕ
 unpaired a r = a .positionAt r .q - sumOver (pairQuantity r) (lines a)
 

@@ -1,6 +1,7 @@
 -- Document 01, Quantities. Every number here is a natural number and `-` stops at 0. That loses nothing: each
--- difference of document 01 stands in a maximum with MM or with 0, and neither is negative.
-use Prim.Native.Nat.{ℕ, _+_, _*_, _/_}
+-- difference of prices or rebates in document 01 stands in a maximum with MM or with 0, and neither is negative. The two
+-- other differences say at their definition why nothing is lost (`Pairs.strikeDifference`, `Promises.unpaired`).
+use Prim.Native.Nat.{ℕ, _*_}
 use Rattle.rules.specs.declared.Series.{Series}
 
 -- "A fine unit is a millionth of a tick." "Ticks are multiplied by 1,000,000 before they meet fine units."
@@ -18,8 +19,3 @@ low s = s .pv * s .fb
 -- "minimum margin MM = f3 × PV"
 abbrev pub minimum : Series → ℕ
 minimum s = s .f3 * s .pv
-
--- Document 01, One position: "divided by 1,000,000 and rounded up once". From fine units times M and contracts to
--- whole centavos.
-abbrev pub roundedUp : ℕ → ℕ
-roundedUp x = (x + 999_999) / 1_000_000

@@ -39,6 +39,7 @@ number RowAskedFor = 13
 abbrev pub outside : ℕ → ℕ → ℕ → Bool
 outside least most x = ltb x least || ltb most x
 
+-- x is not 0.
 abbrev pub nonzero : ℕ → Bool
 nonzero x = not (eqb x 0)
 
@@ -124,6 +125,7 @@ unfoldable pub refuse : Bool → Refusal → Fault → Fault
 refuse true w next = Found w
 refuse false w next = next
 
+-- The trailer's rows of the table, 1 to 4.
 unfoldable pub trailerFault : List ℕ → Fault
 trailerFault b =
     refuse (wrongSize b) FileSize
@@ -131,10 +133,11 @@ trailerFault b =
     (refuse (noPositions b) NoPositions
     (refuse (wrongDistance b) Distance Clean)))
 
+-- A series row's, 5 and 6.
 unfoldable pub seriesRowFault : SeriesRow → Fault
 seriesRowFault r = refuse (wrongSeriesRange r) SeriesRange (refuse (wrongSeriesType r) SeriesType Clean)
 
--- The checks that look at the row's series, which refusal 7 has shown to be there.
+-- A position row's from 8 on: the checks that look at the row's series, which refusal 7 has shown to be there.
 unfoldable pub matchedFault : SeriesRow → PositionRow → Fault
 matchedFault k r =
     refuse (wrongRange r) PositionRange
@@ -142,10 +145,11 @@ matchedFault k r =
     (refuse (wrongBarrierPrice r) BarrierPrice
     (refuse (wrongBarrierSide (k .pv) r) BarrierSide Clean)))
 
--- s is the number of series, k the row's series.
+-- A position row's, 7 to 11: s is the number of series, k the row's series.
 unfoldable pub positionRowFault : ℕ → SeriesRow → PositionRow → Fault
 positionRowFault s k r = refuse (wrongTerms s r) PositionTerms (matchedFault k r)
 
+-- The fault of series row i of a file, and of position row i.
 abbrev pub seriesFault : List ℕ → Layout → ℕ → Fault
 seriesFault b l i = seriesRowFault (seriesRow b l i)
 
@@ -158,6 +162,7 @@ abbrev pub readAs : Fault → Position → PositionRead
 readAs Clean p = Read p
 readAs (Found w) p = Unreadable w
 
+-- The reading of position row i.
 unfoldable pub positionRead : List ℕ → Layout → ℕ → PositionRead
 positionRead b l i = readAs (positionFault b l i) (positionOf (positionRow b l i))
 
@@ -171,6 +176,7 @@ unfoldable pub rows : (ℕ → Fault) → ℕ → FileRead → FileRead
 rows f zero next = next
 rows f (suc n) next = rows f n (orElse (f n) n next)
 
+-- The position rows of a file, all before them being without fault.
 unfoldable pub positionRows : List ℕ → Layout → FileRead
 positionRows b l = rows (positionFault b l) (l .positions) (Accepted l)
 
@@ -187,6 +193,7 @@ pub data Meaning : Type 0 where
   refused : (number row : ℕ) → Meaning
   accepted : Account → Meaning
 
+-- What a reading means: document 01's number and row, or the account where the rows stand.
 abbrev pub meant : List ℕ → FileRead → Meaning
 meant b (Refused w row) = refused (number w) row
 meant b (Accepted l) = accepted (accountOf b l)

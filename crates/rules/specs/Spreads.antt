@@ -30,6 +30,7 @@ priceOf (DownIn price) = price
 priceOf (UpOut price) = price
 priceOf (DownOut price) = price
 
+-- The same kind of barrier at the same price.
 abbrev pub sameBarrier : Barrier → Barrier → Bool
 sameBarrier h w = eqb (kindOf h) (kindOf w) && eqb (priceOf h) (priceOf w)
 
@@ -48,6 +49,7 @@ same h w =
     && sameBarrier (h .barrier) (w .barrier)
     && eqb (h .reb) (w .reb)
 
+-- Whether a row has a limiter, at whatever price.
 abbrev pub hasLimiter : Limiter → Bool
 hasLimiter NoLimiter = false
 hasLimiter (At pb) = true

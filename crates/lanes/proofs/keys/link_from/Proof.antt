@@ -1,6 +1,6 @@
-use Rattle.lanes.proofs.CodeLaws.{low-in, low-out}
-use Rattle.lanes.proofs.keys.row_low.Statement.{statement}
-use Rattle.lanes.proofs.keys.row_low.Tie as tie
+use Rattle.lanes.proofs.CodeLaws.{link-from-in, link-from-out}
+use Rattle.lanes.proofs.keys.link_from.Statement.{statement}
+use Rattle.lanes.proofs.keys.link_from.Tie as tie
 use borrow.Author.Needs.{needs}
 use denote.Ref.{now}
 
@@ -20,7 +20,7 @@ add-result-2 : tie.Need-add-result-2
 add-result-2 c = search needs
 
 returns : tie.Need-returns
-returns c = let a = c .before .before .before .before .before .args in low-in (now (a .file)) (a .l) (a .o) (a .r) (c .before .before .before .position-row .result) (c .before .before .before .position-row .ensures) _ (c .before .before .pairs-as-held .ensures) _ (c .before .if1 .taken) (c .row-from .ensures .0)
+returns c = let a = c .before .before .before .before .before .args in link-from-in (now (a .file)) (a .l) (a .o) (a .r) (c .before .before .before .position-row .result) (c .before .before .before .position-row .ensures) _ (c .before .before .pairs-as-held .ensures) _ (c .before .if1 .taken) (c .row-from .ensures .0)
 
 row-from-requires-2 : tie.Need-row-from-requires-2
 row-from-requires-2 c κs = search needs
@@ -32,10 +32,10 @@ add-result-3 : tie.Need-add-result-3
 add-result-3 c = search needs
 
 returns-2 : tie.Need-returns-2
-returns-2 c = let a = c .before .before .before .before .before .before .args in low-out (now (a .file)) (a .l) (a .o) (a .r) (c .before .before .before .before .position-row .result) (c .before .before .before .before .position-row .ensures) _ (c .before .before .before .pairs-as-held .ensures) _ _ (c .before .before .if1 .left) (c .before .row-from2 .ensures .0) (c .slack-of .ensures .0)
+returns-2 c = let a = c .before .before .before .before .before .before .args in link-from-out (now (a .file)) (a .l) (a .o) (a .r) (c .before .before .before .before .position-row .result) (c .before .before .before .before .position-row .ensures) _ (c .before .before .before .pairs-as-held .ensures) _ _ (c .before .before .if1 .left) (c .before .row-from2 .ensures .0) (c .slack-of .ensures .0)
 
-pub row-low-spec : {M : Type 1} → statement M
-row-low-spec =
+pub link-from-spec : {M : Type 1} → statement M
+link-from-spec =
     tie.close
     (tie.spec
     position-row-requires
