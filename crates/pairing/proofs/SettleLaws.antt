@@ -15,7 +15,8 @@ use Rattle.lanes.specs.declared.Tally.{Tally}
 use Rattle.lines.specs.LineNumbers.{linesFrom}
 use Rattle.pairing.proofs.ListingLaws.{left-same, listed}
 use Rattle.pairing.specs.Listing.{AccountListed, Added, ContractsTo, RowsAsked}
-use Rattle.pairing.specs.Settled.{Settled, premiumsFor}
+use Rattle.pairing.specs.Settled.{Settled}
+use Rattle.rules.specs.Output.{premiumsFor}
 use Rattle.pairing.specs.declared.Listed.{Listed}
 use Rattle.rules.proofs.Counts.{bound, openRows}
 use Rattle.rules.proofs.LineLaws.{length-pairLines, line-count, lines-are, pairsAfter, remainder}

@@ -9,7 +9,8 @@ use rules::Refusal;
 ghost use lib.ListN.{length};
 ghost use mathlib.Core.Path.{_≡_};
 ghost use Rattle.lines.specs.LineNumbers.{lineCount};
-ghost use Rattle.pairing.specs.Settled.{Settled, premiumsFor};
+ghost use Rattle.pairing.specs.Settled.{Settled};
+ghost use Rattle.rules.specs.Output.{premiumsFor};
 ghost use Rattle.rules.specs.Refusals.{fileRead};
 ghost use Rattle.rules.specs.declared.FileRead.the-variants.{Accepted};
 

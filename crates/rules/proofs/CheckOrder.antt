@@ -75,11 +75,11 @@ order = (refl, refl, refl, refl, refl, refl, refl, refl, refl, refl, refl, refl)
 abbrev bytes2 : ℕ → List ℕ
 bytes2 n = n % 256 ∷ n / 256 % 256 ∷ []
 
-abbrev bytes4 : ℕ → List ℕ
+abbrev pub bytes4 : ℕ → List ℕ
 bytes4 n = n % 256 ∷ n / 256 % 256 ∷ n / 65_536 % 256 ∷ n / 16_777_216 % 256 ∷ []
 
 -- A call series row of the PV and last spare byte given.
-abbrev seriesBytes : ℕ → ℕ → List ℕ
+abbrev pub seriesBytes : ℕ → ℕ → List ℕ
 seriesBytes pv spare =
     bytes4 pv
     ++ bytes4 1_200_000
@@ -100,7 +100,7 @@ positionBytes kind spare q price =
     ++ bytes4 0
 
 -- s, p, distance and the last four bytes.
-abbrev trailerBytes : ℕ → ℕ → ℕ → ℕ → List ℕ
+abbrev pub trailerBytes : ℕ → ℕ → ℕ → ℕ → List ℕ
 trailerBytes s p d spare = bytes2 s ++ bytes2 p ++ bytes4 d ++ bytes4 spare
 
 -- Two series rows, the second by its PV and last spare byte, and two position rows.

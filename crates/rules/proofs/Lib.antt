@@ -10,6 +10,7 @@ pub mod PositionLimits
 pub mod TrailerLimits
 pub mod Reading
 pub mod CheckOrder
+pub mod PrintedOutput
 -- The unit margin covers and is least; a pair covers.
 pub mod Mirror
 pub mod Touch

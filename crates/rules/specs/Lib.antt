@@ -7,5 +7,6 @@ pub mod OnePosition
 pub mod Spreads
 pub mod Pairs
 pub mod Lines
+pub mod Output
 pub mod Paths
 pub mod Promises

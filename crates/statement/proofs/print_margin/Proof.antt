@@ -1,54 +1,33 @@
+use Rattle.statement.proofs.PutLaws.{put-size, put-there}
 use Rattle.statement.proofs.print_margin.Statement.{statement}
 use Rattle.statement.proofs.print_margin.Tie as tie
 use borrow.Author.Needs.{needs}
-use mathlib.Core.Path.{sym, _∙_}
-use native.Mathlib.Omega.{arith}
 
-slice-aggregate-settle : tie.Need-slice-aggregate-settle
-slice-aggregate-settle c = search needs
+slice-aggregate-put-margin : tie.Need-slice-aggregate-put-margin
+slice-aggregate-put-margin c = search needs
 
-settle-requires : tie.Need-settle-requires
-settle-requires c κs = search needs
+put-margin-requires : tie.Need-put-margin-requires
+put-margin-requires c κs = search needs
 
-enum-known-answer : tie.Need-enum-known-answer
-enum-known-answer c = search needs
+array-share-prefix-text : tie.Need-array-share-prefix-text
+array-share-prefix-text c = search needs
 
-slice-aggregate-print-lines : tie.Need-slice-aggregate-print-lines
-slice-aggregate-print-lines c = search needs
+slice-aggregate-write-all : tie.Need-slice-aggregate-write-all
+slice-aggregate-write-all c = put-there (c .before .before .put-margin .ensures .0)
 
-print-lines-requires : tie.Need-print-lines-requires
-print-lines-requires c κs = omega (arith, rw (c .before .before .answer .given .1) at (c .before .before .before .before .before .settle .ensures .count-small), c .before .before .before .before .before .settle .ensures .numbers-length)
-
-premium-total-requires : tie.Need-premium-total-requires
-premium-total-requires c κs = search needs
-
-print-totals-requires : tie.Need-print-totals-requires
-print-totals-requires c κs = search needs
-
-enum-known-answer-2 : tie.Need-enum-known-answer-2
-enum-known-answer-2 c = search needs
-
-print-refused-requires : tie.Need-print-refused-requires
-print-refused-requires c κs = search needs
+write-all-requires : tie.Need-write-all-requires
+write-all-requires c κs = search needs
 
 returns : tie.Need-returns
-returns c = sym (c .before .before .before .before .before .answer .given .1) ∙ c .before .before .before .before .before .before .before .before .settle .ensures .answer-is
-
-returns-2 : tie.Need-returns-2
-returns-2 c = sym (c .before .before .answer2 .given .1) ∙ c .before .before .before .before .before .settle .ensures .answer-is
+returns c = put-size (c .before .before .before .put-margin .ensures .0)
 
 pub print-margin-spec : {M : Type 1} → statement M
 print-margin-spec =
     tie.close
     (tie.spec
-    slice-aggregate-settle
-    settle-requires
-    enum-known-answer
-    slice-aggregate-print-lines
-    print-lines-requires
-    premium-total-requires
-    print-totals-requires
-    enum-known-answer-2
-    print-refused-requires
-    returns
-    returns-2)
+    slice-aggregate-put-margin
+    put-margin-requires
+    array-share-prefix-text
+    slice-aggregate-write-all
+    write-all-requires
+    returns)

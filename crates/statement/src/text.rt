@@ -1,0 +1,103 @@
+// A file's margin as the text that document 01 shows.
+use crate::words::put_number;
+use crate::words::put_word;
+use account::values::refusal_number;
+use lines::line_at;
+use pairing::premium_total;
+use pairing::settle;
+use rules::Line;
+use rules::MarginAnswer;
+ghost use Prim.Native.Nat.{_+_, _*_, _≤_};
+ghost use lib.ListN.{length};
+ghost use Rattle.lines.specs.LineNumbers.{linesFrom};
+ghost use Rattle.rules.specs.Output.{leftText, lineText, linesText, marginText, pairText, refusedText, totalsText};
+ghost use Rattle.statement.specs.Puts.{Put};
+
+fn put_pair(text: &mut [u8], at: usize, line: Line) -> usize
+    requires { ⌜ at + 90 ≤ length (now text) ⌝ }
+    ensures { λ r. ⌜ Put (now (text .entry)) (now (text .exit)) at r (pairText line) × (r ≤ at + 90) ⌝ }
+{
+    let word = put_word(text, at, b"pair");
+    let first = put_number(text, word, line.first);
+    let second = put_number(text, first, line.second);
+    let third = put_number(text, second, line.third);
+    let fourth = put_number(text, third, line.fourth);
+    put_word(text, fourth, b"\n")
+}
+
+fn put_left(text: &mut [u8], at: usize, line: Line) -> usize
+    requires { ⌜ at + 90 ≤ length (now text) ⌝ }
+    ensures { λ r. ⌜ Put (now (text .entry)) (now (text .exit)) at r (leftText line) × (r ≤ at + 90) ⌝ }
+{
+    let word = put_word(text, at, b"left");
+    let first = put_number(text, word, line.first);
+    let second = put_number(text, first, line.second);
+    let third = put_number(text, second, line.third);
+    put_word(text, third, b"\n")
+}
+
+fn put_line(text: &mut [u8], at: usize, line: Line) -> usize
+    requires { ⌜ at + 90 ≤ length (now text) ⌝ }
+    ensures { λ r. ⌜ Put (now (text .entry)) (now (text .exit)) at r (lineText line) × (r ≤ at + 90) ⌝ }
+{
+    if line.kind == 1 {
+        return put_pair(text, at, line);
+    }
+    put_left(text, at, line)
+}
+
+// The first lines of the numbers, from the text's start.
+fn put_lines(text: &mut [u8], numbers: &[u64], count: usize) -> usize
+    requires { ⌜ (5 * count ≤ length (now numbers)) × (90 * count ≤ length (now text)) ⌝ }
+    ensures { λ r. ⌜ Put (now (text .entry)) (now (text .exit)) 0 r (linesText (linesFrom (now (numbers .entry)) count)) × (r ≤ 90 * count) ⌝ }
+{
+    let mut at: usize = 0;
+    let mut i: usize = 0;
+    while i < count {
+        at = put_line(text, at, line_at(numbers, i));
+        i += 1;
+    }
+    at
+}
+
+fn put_totals(text: &mut [u8], at: usize, premium: u64, total: u64) -> usize
+    requires { ⌜ at + 60 ≤ length (now text) ⌝ }
+    ensures { λ r. ⌜ Put (now (text .entry)) (now (text .exit)) at r (totalsText premium total) × (r ≤ at + 60) ⌝ }
+{
+    let word = put_word(text, at, b"premium");
+    let number = put_number(text, word, premium);
+    let line = put_word(text, number, b"\n");
+    let word = put_word(text, line, b"total");
+    let number = put_number(text, word, total);
+    put_word(text, number, b"\n")
+}
+
+fn put_refused(text: &mut [u8], number: u64, row: u64) -> usize
+    requires { ⌜ 60 ≤ length (now text) ⌝ }
+    ensures { λ r. ⌜ Put (now (text .entry)) (now (text .exit)) 0 r (refusedText number row) × (r ≤ 60) ⌝ }
+{
+    let word = put_word(text, 0, b"refused");
+    let first = put_number(text, word, number);
+    let second = put_number(text, first, row);
+    put_word(text, second, b"\n")
+}
+
+// The margin of a file, from the text's start. The list of lines has room for every account.
+pub fn put_margin(text: &mut [u8], file: &[u8]) -> usize
+    requires { ⌜ 24_000 ≤ length (now text) ⌝ }
+    ensures { λ r. ⌜ Put (now (text .entry)) (now (text .exit)) 0 r (marginText (now (file .entry))) × (r ≤ 24_000) ⌝ }
+{
+    let mut numbers = [0u64; 1280];
+    let answer = settle(file, 256, &mut numbers);
+    match answer {
+        MarginAnswer::Total(count, total) => {
+            let end = put_lines(text, &numbers, count);
+            put_totals(text, end, premium_total(file), total)
+        }
+        MarginAnswer::NoTotal(why, row) => put_refused(
+            text,
+            refusal_number(why) as u64,
+            row as u64,
+        ),
+    }
+}
