@@ -1,7 +1,7 @@
 //! Checks the four points of the document's section on paths by trying paths.
 //!
 //! For a small account every path of up to a given length is tried whose
-//! prices come from a list of telling ones: L, H, PV, barriers and one fine
+//! prices come from a list of prices of interest: L, H, PV, barriers and one fine
 //! unit beside them, the farthest prices that can follow a barrier, strikes
 //! and limiters.
 
@@ -111,7 +111,7 @@ fn check_paths(account: &Account, claim: &Claim, longest_path: usize) -> Result<
         let mut largest_payment = vec![0; account.positions.len()];
         let mut violation: Option<String> = None;
 
-        let prices = telling_prices(account, number);
+        let prices = prices_of_interest(account, number);
         let mut path = Vec::new();
         walk(series, &prices, &mut path, longest_path, &mut |path| {
             steps += 1;
@@ -208,7 +208,7 @@ fn check_paths(account: &Account, claim: &Claim, longest_path: usize) -> Result<
 }
 
 /// Prices from L to H at which something may change.
-fn telling_prices(account: &Account, number: usize) -> Vec<i128> {
+fn prices_of_interest(account: &Account, number: usize) -> Vec<i128> {
     let series = &account.series[number];
     let mut prices = vec![series.low(), series.high(), fine(series.pv)];
     for position in account.positions.iter().filter(|p| p.series == number) {

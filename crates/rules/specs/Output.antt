@@ -23,7 +23,7 @@ decimalIn (suc places) n = cond (ltb n 10) ((48 + n) ∷ []) (decimalIn places (
 abbrev pub numberText : ℕ → List ℕ
 numberText n = 32 ∷ decimalIn 20 n
 
--- The words "pair", "left", "premium", "total" and "refused".
+-- The words: pair, left, premium, total, refused.
 abbrev pub pairWord : List ℕ
 pairWord = 112 ∷ 97 ∷ 105 ∷ 114 ∷ []
 
@@ -52,9 +52,11 @@ pairText x =
 unfoldable pub leftText : Line → List ℕ
 leftText x = (((leftWord ++ numberText (x .first)) ++ numberText (x .second)) ++ numberText (x .third)) ++ lineFeed
 
+-- A line, by its kind.
 abbrev pub lineText : Line → List ℕ
 lineText x = cond (eqb (x .kind) 1) (pairText x) (leftText x)
 
+-- The lines, one after the other.
 unfoldable pub linesText : List Line → List ℕ
 linesText [] = []
 linesText (x ∷ l) = lineText x ++ linesText l
@@ -64,6 +66,7 @@ unfoldable pub totalsText : ℕ → ℕ → List ℕ
 totalsText premium sum =
     ((((premiumWord ++ numberText premium) ++ lineFeed) ++ totalWord) ++ numberText sum) ++ lineFeed
 
+-- "`refused` with number and row"
 unfoldable pub refusedText : ℕ → ℕ → List ℕ
 refusedText n row = ((refusedWord ++ numberText n) ++ numberText row) ++ lineFeed
 
@@ -72,6 +75,7 @@ abbrev pub premiumsFor : List ℕ → FileRead → ℕ
 premiumsFor b (Refused w i) = 0
 premiumsFor b (Accepted l) = premiums (accountOf b l)
 
+-- The output for an answer.
 abbrev pub answerText : List ℕ → MarginAnswer → List ℕ
 answerText b (Total n sum) = linesText (linesGiven b 256) ++ totalsText (premiumsFor b (fileRead b)) sum
 answerText b (NoTotal w row) = refusedText (number w) row

@@ -13,6 +13,7 @@ ghost use Rattle.lines.specs.LineNumbers.{linesFrom};
 ghost use Rattle.rules.specs.Output.{leftText, lineText, linesText, marginText, pairText, refusedText, totalsText};
 ghost use Rattle.statement.specs.Puts.{Put};
 
+// A pair: written row, held row, contracts and amount.
 fn put_pair(text: &mut [u8], at: usize, line: Line) -> usize
     requires { ⌜ at + 90 ≤ length (now text) ⌝ }
     ensures { λ r. ⌜ Put (now (text .entry)) (now (text .exit)) at r (pairText line) × (r ≤ at + 90) ⌝ }
@@ -25,6 +26,7 @@ fn put_pair(text: &mut [u8], at: usize, line: Line) -> usize
     put_word(text, fourth, b"\n")
 }
 
+// A row left: row, contracts and amount.
 fn put_left(text: &mut [u8], at: usize, line: Line) -> usize
     requires { ⌜ at + 90 ≤ length (now text) ⌝ }
     ensures { λ r. ⌜ Put (now (text .entry)) (now (text .exit)) at r (leftText line) × (r ≤ at + 90) ⌝ }
@@ -36,6 +38,7 @@ fn put_left(text: &mut [u8], at: usize, line: Line) -> usize
     put_word(text, third, b"\n")
 }
 
+// A line, by its kind.
 fn put_line(text: &mut [u8], at: usize, line: Line) -> usize
     requires { ⌜ at + 90 ≤ length (now text) ⌝ }
     ensures { λ r. ⌜ Put (now (text .entry)) (now (text .exit)) at r (lineText line) × (r ≤ at + 90) ⌝ }
@@ -60,6 +63,7 @@ fn put_lines(text: &mut [u8], numbers: &[u64], count: usize) -> usize
     at
 }
 
+// The premiums and the total, a line each.
 fn put_totals(text: &mut [u8], at: usize, premium: u64, total: u64) -> usize
     requires { ⌜ at + 60 ≤ length (now text) ⌝ }
     ensures { λ r. ⌜ Put (now (text .entry)) (now (text .exit)) at r (totalsText premium total) × (r ≤ at + 60) ⌝ }
@@ -72,6 +76,7 @@ fn put_totals(text: &mut [u8], at: usize, premium: u64, total: u64) -> usize
     put_word(text, number, b"\n")
 }
 
+// A refusal, from the text's start: number and row.
 fn put_refused(text: &mut [u8], number: u64, row: u64) -> usize
     requires { ⌜ 60 ≤ length (now text) ⌝ }
     ensures { λ r. ⌜ Put (now (text .entry)) (now (text .exit)) 0 r (refusedText number row) × (r ≤ 60) ⌝ }
