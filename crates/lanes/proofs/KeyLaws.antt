@@ -108,9 +108,6 @@ module _ (a : Account) (ok : Ranged a) (o : ℕ) where
   key-row h l k =
       rw (key-is h (key-some h k)) (omega (arith, ok .rows-most))
 
-  pub from-most : (r : ℕ) → r < a .positions → from a o r + 256 ≤ top a r
-  from-most r l = omega (arith, strike-most o (a .positionAt r .pe) (ok .pe-most r l))
-
   pub top-most : (r : ℕ) → r < a .positions → top a r < none
   top-most r l = omega (arith, ok .series-most r l)
 

@@ -4,4 +4,3 @@ pub mod Settling
 pub mod Zeros
 pub mod Literal
 pub mod Several
-pub mod Sign

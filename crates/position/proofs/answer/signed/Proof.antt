@@ -1,10 +1,10 @@
 use Prim.Native.Nat.{ℕ, _<_, _≤_, _^_}
 use Rattle.position.specs.Fits.{amountIn}
 use Rattle.rules.specs.OnePosition.{signedAnswer}
 use Rattle.rules.specs.declared.AmountAnswer.{AmountAnswer}
-use Rattle.serpentgleam.proofs.Sign.{to-pos, pos-fits, from-zero, neg-fits}
-use Rattle.serpentgleam.proofs.position_amount.signed.Statement.{statement}
-use Rattle.serpentgleam.proofs.position_amount.signed.Tie as tie
+use Rattle.position.proofs.Sign.{to-pos, pos-fits, from-zero, neg-fits}
+use Rattle.position.proofs.answer.signed.Statement.{statement}
+use Rattle.position.proofs.answer.signed.Tie as tie
 use borrow.Author.Needs.{needs}
 use lib.IntN.{negℤ, pos}
 use mathlib.Core.Path.{sym, _∙_, ap, subst}
