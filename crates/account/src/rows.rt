@@ -53,8 +53,8 @@ pub fn layout_of(file: &[u8]) -> Layout
     Layout {
         series,
         positions,
-        start,
-        middle: start + 24 * series,
+        seriesStart: start,
+        positionsStart: start + 24 * series,
     }
 }
 
@@ -97,7 +97,7 @@ pub fn series_row(file: &[u8], l: Layout, i: usize) -> SeriesRow
     requires { ⌜ Placed (now file) l × (i < l .series) ⌝ }
     ensures { λ r. ⌜ r ≡ seriesRow (now (file .entry)) l i ⌝ }
 {
-    series_row_from(file, l.start + 24 * i)
+    series_row_from(file, l.seriesStart + 24 * i)
 }
 
 // Position row i.
@@ -105,5 +105,5 @@ pub fn position_row(file: &[u8], l: Layout, i: usize) -> PositionRow
     requires { ⌜ Placed (now file) l × (i < l .positions) ⌝ }
     ensures { λ r. ⌜ r ≡ positionRow (now (file .entry)) l i ⌝ }
 {
-    position_row_from(file, l.middle + 32 * i)
+    position_row_from(file, l.positionsStart + 32 * i)
 }

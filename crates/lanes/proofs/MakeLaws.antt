@@ -55,7 +55,7 @@ amount-is b l w h q u r row s er es eu e =
     e ∙ ap₂ (λ x y. amountOf x y q) eu m
 
 abbrev lineOf : ℕ → ℕ → ℕ → ℕ → Line
-lineOf w h q m = record { kind = 1; first = w; second = h; third = q; fourth = m }
+lineOf w h q m = record { kind = 1; secondNumber = w; thirdNumber = h; fourthNumber = q; fifthNumber = m }
 
 -- One pair made.
 pub pair-written : (b : List ℕ) (l : Layout) (left numbers : List ℕ) (k w h : ℕ) → PairAsked b l left numbers k w h

@@ -19,7 +19,7 @@ use Rattle.lanes.specs.declared.Standing.{Standing}
 use Rattle.rules.proofs.MayPair.{may-pairable}
 use Rattle.rules.proofs.Search.{allowed-is}
 use Rattle.rules.specs.File.{Account, accountOf, positionOf, positionRow, sideOf}
-use Rattle.rules.specs.Pairs.{bookOf, europeanOrOld, isHeld, isWritten}
+use Rattle.rules.specs.Pairs.{bookOf, europeanOrBeforeAnnex, isHeld, isWritten}
 use Rattle.rules.specs.declared.Layout.{Layout}
 use Rattle.rules.specs.declared.Position.{Position}
 use Rattle.rules.specs.declared.PositionRow.{PositionRow}
@@ -37,7 +37,7 @@ written-test side x = go (eqb side 0)
 out-of-lanes : (p : Position) → pairsAsWritten p ≡ true → pairsAsHeld p ≡ false
 out-of-lanes p = go (p .side)
   where
-    go : (s : Side) → (isWritten s && europeanOrOld p) ≡ true → (isHeld s && europeanOrOld p) ≡ false
+    go : (s : Side) → (isWritten s && europeanOrBeforeAnnex p) ≡ true → (isHeld s && europeanOrBeforeAnnex p) ≡ false
     go Held e = absurd (true≢false (sym e))
     go Written e = refl
 

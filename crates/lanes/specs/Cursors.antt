@@ -11,13 +11,13 @@ use Rattle.lanes.specs.declared.Standing.{Standing}
 use Rattle.rules.proofs.PairOrder.{rank}
 use Rattle.rules.specs.File.{Account, seriesOfRow}
 use Rattle.rules.specs.OnePosition.{unitMargin}
-use Rattle.rules.specs.Pairs.{allowed, bookOf, europeanOrOld, isWritten, mayOf}
+use Rattle.rules.specs.Pairs.{allowed, bookOf, europeanOrBeforeAnnex, isWritten, mayOf}
 use Rattle.rules.specs.declared.Layout.{Layout}
 use Rattle.rules.specs.declared.Position.{Position}
 
 -- A written row that is European or opened before the annex: no other row is the written row of a pair.
 abbrev pub pairsAsWritten : Position → Bool
-pairsAsWritten p = isWritten (p .side) && europeanOrOld p
+pairsAsWritten p = isWritten (p .side) && europeanOrBeforeAnnex p
 
 -- What each look at row w asks: an accepted file, contracts left of every row, and the row.
 pub record Row (b : List ℕ) (l : Layout) (left : List ℕ) (w : ℕ) : Type 0 where

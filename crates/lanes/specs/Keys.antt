@@ -11,7 +11,7 @@ use lib.ListN.{getD}
 use Rattle.account.specs.Known.{Known}
 use Rattle.rules.specs.File.{Account}
 use Rattle.rules.specs.Limits.{Placed}
-use Rattle.rules.specs.Pairs.{europeanOrOld, isHeld}
+use Rattle.rules.specs.Pairs.{europeanOrBeforeAnnex, isHeld}
 use Rattle.rules.specs.declared.Layout.{Layout}
 use Rattle.rules.specs.declared.Position.{Position}
 
@@ -30,7 +30,7 @@ nth numbers r = getD numbers r 0
 
 -- A held row that is European or opened before the annex: no other row is the held row of a pair.
 abbrev pub pairsAsHeld : Position → Bool
-pairsAsHeld p = isHeld (p .side) && europeanOrOld p
+pairsAsHeld p = isHeld (p .side) && europeanOrBeforeAnnex p
 
 abbrev pub inLanes : Account → ℕ → Bool
 inLanes a r = pairsAsHeld (a .positionAt r)

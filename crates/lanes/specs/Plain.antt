@@ -2,7 +2,7 @@
 use Prim.Native.Nat.{ℕ, _-_, _/_, _%_}
 use mathlib.Core.Bool.{Bool, cond, not, _&&_, _||_}
 use lib.Dec.{eqb, ltb}
-use Rattle.rules.specs.File.{europeanFlag, knockedInFlag, limiterFlag, oldFlag}
+use Rattle.rules.specs.File.{europeanFlag, knockedInFlag, limiterFlag, beforeAnnexFlag}
 use Rattle.rules.specs.Quantities.{fine}
 use Rattle.rules.specs.declared.PositionRow.{PositionRow}
 
@@ -18,7 +18,7 @@ plainPair option w h unit =
     not (eqb (w .side) 0)
     && eqb (h .side) 0
     && eqb (w .series) (h .series)
-    && ((europeanFlag (w .flags) || oldFlag (w .flags)) && (europeanFlag (h .flags) || oldFlag (h .flags)))
+    && ((europeanFlag (w .flags) || beforeAnnexFlag (w .flags)) && (europeanFlag (h .flags) || beforeAnnexFlag (h .flags)))
     && ltb (plainLoss option (w .pe) (h .pe)) unit
 
 -- The same numbers, but for the series, the side, the contracts and the premium.

@@ -47,10 +47,10 @@ pub fn make_pair(
     left[h] = y - q;
     let line = Line {
         kind: 1,
-        first: w as u64,
-        second: h as u64,
-        third: q,
-        fourth: money,
+        secondNumber: w as u64,
+        thirdNumber: h as u64,
+        fourthNumber: q,
+        fifthNumber: money,
     };
     put_line(numbers, k, line);
     money

@@ -63,17 +63,17 @@ module _ (l : List ℕ) (n a b c d e : ℕ) (long : n + 5 ≤ length l) where
       ∙ getD-set-other l n i a 0 p
 
 pub line-written : (numbers : List ℕ) (k : ℕ) (x : Line) → 5 * k + 5 ≤ length numbers
-    → LineWritten k x numbers (set (set (set (set (set numbers (5 * k) (x .kind)) (5 * k + 1) (x .first)) (5 * k + 2) (x .second)) (5 * k + 3) (x .third)) (5 * k + 4) (x .fourth))
+    → LineWritten k x numbers (set (set (set (set (set numbers (5 * k) (x .kind)) (5 * k + 1) (x .secondNumber)) (5 * k + 2) (x .thirdNumber)) (5 * k + 3) (x .fourthNumber)) (5 * k + 4) (x .fifthNumber))
 line-written numbers k x long =
     record {
       line-is =
           rw (
-            at-0 numbers (5 * k) (x .kind) (x .first) (x .second) (x .third) (x .fourth) long,
-            at-1 numbers (5 * k) (x .kind) (x .first) (x .second) (x .third) (x .fourth) long,
-            at-2 numbers (5 * k) (x .kind) (x .first) (x .second) (x .third) (x .fourth) long,
-            at-3 numbers (5 * k) (x .kind) (x .first) (x .second) (x .third) (x .fourth) long,
-            at-4 numbers (5 * k) (x .kind) (x .first) (x .second) (x .third) (x .fourth) long,
+            at-0 numbers (5 * k) (x .kind) (x .secondNumber) (x .thirdNumber) (x .fourthNumber) (x .fifthNumber) long,
+            at-1 numbers (5 * k) (x .kind) (x .secondNumber) (x .thirdNumber) (x .fourthNumber) (x .fifthNumber) long,
+            at-2 numbers (5 * k) (x .kind) (x .secondNumber) (x .thirdNumber) (x .fourthNumber) (x .fifthNumber) long,
+            at-3 numbers (5 * k) (x .kind) (x .secondNumber) (x .thirdNumber) (x .fourthNumber) (x .fifthNumber) long,
+            at-4 numbers (5 * k) (x .kind) (x .secondNumber) (x .thirdNumber) (x .fourthNumber) (x .fifthNumber) long,
           );
-      before = λ i l. elsewhere numbers (5 * k) (x .kind) (x .first) (x .second) (x .third) (x .fourth) long i (λ (e : i ≡ 5 * k). omega arith) (λ (e : i ≡ 5 * k + 1). omega arith) (λ (e : i ≡ 5 * k + 2). omega arith) (λ (e : i ≡ 5 * k + 3). omega arith) (λ (e : i ≡ 5 * k + 4). omega arith);
-      after = λ i l. elsewhere numbers (5 * k) (x .kind) (x .first) (x .second) (x .third) (x .fourth) long i (λ (e : i ≡ 5 * k). omega arith) (λ (e : i ≡ 5 * k + 1). omega arith) (λ (e : i ≡ 5 * k + 2). omega arith) (λ (e : i ≡ 5 * k + 3). omega arith) (λ (e : i ≡ 5 * k + 4). omega arith);
+      before = λ i l. elsewhere numbers (5 * k) (x .kind) (x .secondNumber) (x .thirdNumber) (x .fourthNumber) (x .fifthNumber) long i (λ (e : i ≡ 5 * k). omega arith) (λ (e : i ≡ 5 * k + 1). omega arith) (λ (e : i ≡ 5 * k + 2). omega arith) (λ (e : i ≡ 5 * k + 3). omega arith) (λ (e : i ≡ 5 * k + 4). omega arith);
+      after = λ i l. elsewhere numbers (5 * k) (x .kind) (x .secondNumber) (x .thirdNumber) (x .fourthNumber) (x .fifthNumber) long i (λ (e : i ≡ 5 * k). omega arith) (λ (e : i ≡ 5 * k + 1). omega arith) (λ (e : i ≡ 5 * k + 2). omega arith) (λ (e : i ≡ 5 * k + 3). omega arith) (λ (e : i ≡ 5 * k + 4). omega arith);
     }

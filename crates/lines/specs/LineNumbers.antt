@@ -12,10 +12,10 @@ abbrev pub lineFrom : List ℕ → ℕ → Line
 lineFrom numbers i =
     record {
       kind = getD numbers (5 * i) 0;
-      first = getD numbers (5 * i + 1) 0;
-      second = getD numbers (5 * i + 2) 0;
-      third = getD numbers (5 * i + 3) 0;
-      fourth = getD numbers (5 * i + 4) 0;
+      secondNumber = getD numbers (5 * i + 1) 0;
+      thirdNumber = getD numbers (5 * i + 2) 0;
+      fourthNumber = getD numbers (5 * i + 3) 0;
+      fifthNumber = getD numbers (5 * i + 4) 0;
     }
 
 -- The first n lines of the numbers.

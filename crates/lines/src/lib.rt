@@ -13,10 +13,10 @@ pub fn line_at(numbers: &[u64], i: usize) -> Line
     let at = 5 * i;
     Line {
         kind: numbers[at],
-        first: numbers[at + 1],
-        second: numbers[at + 2],
-        third: numbers[at + 3],
-        fourth: numbers[at + 4],
+        secondNumber: numbers[at + 1],
+        thirdNumber: numbers[at + 2],
+        fourthNumber: numbers[at + 3],
+        fifthNumber: numbers[at + 4],
     }
 }
 
@@ -27,8 +27,8 @@ pub fn put_line(numbers: &mut [u64], k: usize, line: Line)
 {
     let at = 5 * k;
     numbers[at] = line.kind;
-    numbers[at + 1] = line.first;
-    numbers[at + 2] = line.second;
-    numbers[at + 3] = line.third;
-    numbers[at + 4] = line.fourth;
+    numbers[at + 1] = line.secondNumber;
+    numbers[at + 2] = line.thirdNumber;
+    numbers[at + 3] = line.fourthNumber;
+    numbers[at + 4] = line.fifthNumber;
 }

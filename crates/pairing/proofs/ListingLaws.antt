@@ -26,7 +26,7 @@ abbrev pub listed : ℕ → ℕ → Listed
 listed count total = record { count = count; total = total }
 
 abbrev pub leftEntry : ℕ → ℕ → ℕ → Line
-leftEntry row q m = record { kind = 2; first = row; second = q; third = m; fourth = 0 }
+leftEntry row q m = record { kind = 2; secondNumber = row; thirdNumber = q; fourthNumber = m; fifthNumber = 0 }
 
 lines-same : (x y : List ℕ) (n : ℕ) → ((i : ℕ) → i < 5 * n → nth x i ≡ nth y i) → linesFrom x n ≡ linesFrom y n
 unfolding linesFrom

@@ -18,13 +18,14 @@ use Rattle.pairing.specs.Listing.{AccountListed, Added, ContractsTo, Row
 use Rattle.pairing.specs.Settled.{Settled}
 use Rattle.rules.specs.Output.{premiumsFor}
 use Rattle.pairing.specs.declared.Listed.{Listed}
+use Rattle.rules.proofs.Answers.{answer-read, given-read}
 use Rattle.rules.proofs.Counts.{bound, openRows}
-use Rattle.rules.proofs.LineLaws.{length-pairLines, line-count, lines-are, pairsAfter, remainder}
+use Rattle.rules.proofs.LineLaws.{length-pairLines, line-count, lines-are}
 use Rattle.rules.proofs.Rounds.{left-falls}
 use Rattle.rules.proofs.Sums.{sumOver-append, sumTo-same}
 use Rattle.rules.specs.File.{Account, accountOf}
-use Rattle.rules.specs.Lines.{leftLines, lineAmount, lines, linesFor, linesGiven, marginAnswer, marginForList, pairLines, premiums, spreadAmount, sumOver, total}
-use Rattle.rules.specs.Pairs.{Made, available, bookOf}
+use Rattle.rules.specs.Lines.{leftLines, lineAmount, lines, pairLines, premiums, spreadAmount, sumOver, total}
+use Rattle.rules.specs.Pairs.{Made, available, bookOf, contractsAfter, pairsAfter}
 use Rattle.rules.specs.Refusals.{fileRead}
 use Rattle.rules.specs.declared.FileRead.{FileRead}
 use Rattle.rules.specs.declared.FileRead.the-variants.{Accepted, Refused}
@@ -60,7 +61,7 @@ rows-ask b l n₀ left n t k el en p =
             p .count-is,
             placed b l k .positions-most,
             bound (bookOf a) (available a) (l .positions),
-            sumTo-same (λ r. min 1 (nth left r)) (λ r. min 1 (remainder a (l .positions) r)) (l .positions) (λ r h. ap (min 1) (p .left-is r h)),
+            sumTo-same (λ r. min 1 (nth left r)) (λ r. min 1 (contractsAfter a (l .positions) r)) (l .positions) (λ r h. ap (min 1) (p .left-is r h)),
           );
       total-most = p .total-most;
     }
@@ -72,7 +73,7 @@ pub account-listed : (b : List ℕ) (l : Layout) (n₀ left n n′ : List ℕ) (
 account-listed b l n₀ left n n′ t t′ k en p f =
     let a = accountOf b l in
     let pairs = pairLines a (pairsAfter a (l .positions)) in
-    let same = left-same a (nth left) (remainder a (l .positions)) (l .positions) (p .left-is) in
+    let same = left-same a (nth left) (contractsAfter a (l .positions)) (l .positions) (p .left-is) in
     let all : pairs ++ leftLines a (nth left) (l .positions) ≡ lines a = ap (λ x. pairs ++ x) same ∙ sym (lines-are a) in
     let count : t′ .count ≡ length (lines a) =
     omega (arith, f .count-is, p .count-is, length-pairLines a (pairsAfter a (l .positions)), length-append pairs (leftLines a (nth left) (l .positions)), ap length all)
@@ -93,15 +94,6 @@ account-listed b l n₀ left n n′ t t′ k en p f =
       total-most = omega (arith, f .total-most, f .count-is, p .total-most, count, few, placed b l k .positions-most);
       numbers-length = f .numbers-length ∙ en;
     }
-
-module _ (b : List ℕ) (room : ℕ) (x : FileRead) (e : fileRead b ≡ x) where
-  answer-read : marginAnswer b room ≡ marginForList b room x
-  unfolding marginAnswer
-  answer-read = ap (marginForList b room) e
-
-  given-read : linesGiven b room ≡ linesFor b x (marginForList b room x)
-  unfolding linesGiven marginAnswer
-  given-read = ap (λ (y : FileRead). linesFor b y (marginForList b room y)) e
 
 pub premiums-read : (b : List ℕ) (x : FileRead) → fileRead b ≡ x → premiumsFor b (fileRead b) ≡ premiumsFor b x
 premiums-read b x e = ap (premiumsFor b) e
@@ -134,7 +126,7 @@ module _ (b : List ℕ) (room : ℕ) (numbers : List ℕ) (en : length numbers �
 
     pub settled-total : (n : ℕ) (t : Listed) → l .positions ≤ room → AccountListed (accountOf b l) numbers t → n ≡ premiums (accountOf b l)
         → Settled b room numbers (Total (t .count) (t .total + n))
-    unfolding total
+    unfolding total lines
     settled-total n t h f en′ =
         let a = accountOf b l in
         let s = le-ltb room (l .positions) h in

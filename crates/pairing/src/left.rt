@@ -60,10 +60,10 @@ fn left_row(
     let money = left_amount(file, l, row, q);
     let line = Line {
         kind: 2,
-        first: row as u64,
-        second: q,
-        third: money,
-        fourth: 0,
+        secondNumber: row as u64,
+        thirdNumber: q,
+        fourthNumber: money,
+        fifthNumber: 0,
     };
     put_line(numbers, t.count, line);
     Listed {

@@ -13,14 +13,16 @@ use numbers::product;
 use rules::Barrier;
 use rules::Position;
 use rules::Series;
+ghost use Prim.Native.Nat.{max};
 ghost use mathlib.Core.Path.{_≡_};
 ghost use Rattle.rules.proofs.Mirror.{bare, most, rule, worst};
-ghost use Rattle.rules.specs.OnePosition.{orRebate, unitMargin};
+ghost use Rattle.rules.specs.OnePosition.{rebate, unitMargin};
+ghost use Rattle.rules.specs.Quantities.{minimum};
 ghost use Rattle.rules.specs.declared.Barrier.the-variants.{DownIn, DownOut, UpIn, UpOut};
 
 // max(MM; REB)
 fn or_rebate(s: Series, p: Position) -> u64
-    ensures { λ r. ⌜ r ≡ orRebate s p ⌝ }
+    ensures { λ r. ⌜ r ≡ max (minimum s) (rebate p) ⌝ }
 {
     larger(minimum_margin(s), rebate_of(p))
 }

@@ -36,7 +36,7 @@ pub fn minimum_margin(s: Series) -> u64
 pub fn normalised(p: Position) -> Position
     ensures { λ r. ⌜ r ≡ normal p ⌝ }
 {
-    if p.knocked {
+    if p.knockedIn {
         let side = p.side;
         let limiter = p.limiter;
         return Position {
@@ -44,9 +44,9 @@ pub fn normalised(p: Position) -> Position
             side,
             barrier: Barrier::NoBarrier,
             limiter,
-            knocked: p.knocked,
+            knockedIn: p.knockedIn,
             european: p.european,
-            old: p.old,
+            beforeAnnex: p.beforeAnnex,
             q: p.q,
             pe: p.pe,
             reb: 0,

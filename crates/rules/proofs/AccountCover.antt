@@ -7,15 +7,15 @@ use mathlib.Core.List.{List}
 use mathlib.Core.Path.{_≡_, refl, sym, ap}
 use native.Mathlib.Nat.{mul-le-mul-right}
 use native.Mathlib.Omega.{arith}
-use Rattle.rules.proofs.LineLaws.{amounts, brought, lines-are, linesAfter, pairsAfter, remainder, total-is, totalAfter}
+use Rattle.rules.proofs.LineLaws.{amounts, brought, lines-are, total-is}
 use Rattle.rules.proofs.MayPair.{apart, may-pairable}
 use Rattle.rules.proofs.Sums.{each-map, sumOver-add, sumOver-most, sumOver-scale, sumTo-most, sumTo-same, sumTo-scale}
 use Rattle.rules.proofs.Weights.{Sound, made-sound, weighed}
 use Rattle.rules.specs.File.{Account, seriesOfRow}
-use Rattle.rules.specs.Lines.{leftAmount, spreadAmount, spreadUnit, sumOver, sumTo}
+use Rattle.rules.specs.Lines.{leftAmount, linesAfter, spreadAmount, spreadUnit, sumOver, sumTo, totalAfter}
 use Rattle.rules.specs.OnePosition.{amountOf, roundedUp, unitMargin}
-use Rattle.rules.specs.Pairs.{Made, available, bookOf, mayOf}
-use Rattle.rules.specs.Promises.{Cover, OnePathEach, bringsIn, paidOut, paymentOfRow, paysOut}
+use Rattle.rules.specs.Pairs.{Made, available, bookOf, contractsAfter, mayOf, pairsAfter}
+use Rattle.rules.specs.Promises.{Cover, OnePathEach, lineBringsIn, rowPayment, rowPaysOut, writtenPayOut}
 use Rattle.rules.specs.Spreads.{unitSpread}
 use Rattle.rules.specs.declared.Position.{Position}
 use Rattle.rules.specs.declared.Series.{Series}
@@ -29,7 +29,7 @@ abbrev pub RowsCovered : Account → Type 0
 RowsCovered a =
     (path : ℕ → List ℕ) → OnePathEach a path
     → (r : ℕ) → r < a .positions → a .positionAt r .side ≡ Written
-    → paymentOfRow a path r ≤ unitMargin (seriesOfRow a r) (a .positionAt r)
+    → rowPayment a path r ≤ unitMargin (seriesOfRow a r) (a .positionAt r)
 
 -- On every choice of paths the written row of two rows that pair pays at most their spread and what the held row pays.
 abbrev pub PairsCovered : Account → Type 0
@@ -37,7 +37,7 @@ PairsCovered a =
     (path : ℕ → List ℕ) → OnePathEach a path
     → (w h : ℕ) → w < a .positions → h < a .positions → mayOf a w h ≡ true
     → (u : ℕ) → unitSpread (seriesOfRow a w) (a .positionAt h) (a .positionAt w) ≡ Margin u
-    → paymentOfRow a path w ≤ u + paymentOfRow a path h
+    → rowPayment a path w ≤ u + rowPayment a path h
 
 rounded : (x : ℕ) → x ≤ 1_000_000 * roundedUp x
 rounded x = omega arith
@@ -47,7 +47,7 @@ abbrev paysEach : Side → ℕ → ℕ → ℕ
 paysEach Held pays m = 0
 paysEach Written pays m = pays * m
 
-pays-each : (x : Side) (pays m q : ℕ) → paysOut x pays m q ≡ paysEach x pays m * q
+pays-each : (x : Side) (pays m q : ℕ) → rowPaysOut x pays m q ≡ paysEach x pays m * q
 pays-each Held pays m q = omega arith
 pays-each Written pays m q = refl
 
@@ -68,16 +68,16 @@ pair-covered x y spread u paysw paysh mw mh q ex ey es em l =
 
 module _ (a : Account) (n : ℕ) (path : ℕ → List ℕ) (each : OnePathEach a path) where
   abbrev payEach : ℕ → ℕ
-  payEach r = paysEach (a .positionAt r .side) (paymentOfRow a path r) (seriesOfRow a r .m)
+  payEach r = paysEach (a .positionAt r .side) (rowPayment a path r) (seriesOfRow a r .m)
 
   -- What the pairs made cover.
   pairs-covered : PairsCovered a
       → sumOver (λ m. (payEach (m .written) + payEach (m .held)) * m .quantity) (pairsAfter a n)
-      ≤ 1_000_000 * sumOver (spreadAmount a) (pairsAfter a n) + sumOver (bringsIn a path) (linesAfter a n)
+      ≤ 1_000_000 * sumOver (spreadAmount a) (pairsAfter a n) + sumOver (lineBringsIn a path) (linesAfter a n)
   pairs-covered c =
       omega (
         arith,
-        brought a n path,
+        brought a (pairsAfter a n) (contractsAfter a n) (a .positions) path,
         sumOver-most pays covers (pairsAfter a n) (each-map pair (pairsAfter a n) (made-sound (bookOf a) (available a) n)),
         sumOver-add (λ m. 1_000_000 * spreadAmount a m) brings (pairsAfter a n),
         sumOver-scale 1_000_000 (spreadAmount a) (pairsAfter a n),
@@ -87,7 +87,7 @@ module _ (a : Account) (n : ℕ) (path : ℕ → List ℕ) (each : OnePathEach a
       pays m = (payEach (m .written) + payEach (m .held)) * m .quantity
 
       brings : Made → ℕ
-      brings m = paymentOfRow a path (m .held) * seriesOfRow a (m .held) .m * m .quantity
+      brings m = rowPayment a path (m .held) * seriesOfRow a (m .held) .m * m .quantity
 
       covers : Made → ℕ
       covers m = 1_000_000 * spreadAmount a m + brings m
@@ -97,34 +97,34 @@ module _ (a : Account) (n : ℕ) (path : ℕ → List ℕ) (each : OnePathEach a
           let p = may-pairable a (m .written) (m .held) (s .may-pair) in
           pair-covered (a .positionAt (m .written) .side) (a .positionAt (m .held) .side)
           (unitSpread (seriesOfRow a (m .written)) (a .positionAt (m .held)) (a .positionAt (m .written))) (p .spread)
-          (paymentOfRow a path (m .written)) (paymentOfRow a path (m .held)) (seriesOfRow a (m .written) .m)
+          (rowPayment a path (m .written)) (rowPayment a path (m .held)) (seriesOfRow a (m .written) .m)
           (seriesOfRow a (m .held) .m) (m .quantity) (p .is-written) (p .is-held) (p .spread-is)
           (ap (λ i. a .seriesAt i .m) (sym (p .one-series)))
           (c path each (m .written) (m .held) (s .written-below) (s .held-below) (s .may-pair) (p .spread) (p .spread-is))
 
   -- What the left lines cover.
   rows-covered : RowsCovered a
-      → sumTo (λ r. payEach r * remainder a n r) (a .positions)
-      ≤ 1_000_000 * sumTo (λ r. leftAmount (a .positionAt r .side) (seriesOfRow a r) (a .positionAt r) (remainder a n r)) (a .positions)
+      → sumTo (λ r. payEach r * contractsAfter a n r) (a .positions)
+      ≤ 1_000_000 * sumTo (λ r. leftAmount (a .positionAt r .side) (seriesOfRow a r) (a .positionAt r) (contractsAfter a n r)) (a .positions)
   rows-covered c =
       omega (
         arith,
         sumTo-scale amount 1_000_000 (a .positions),
-        sumTo-most (λ r. payEach r * remainder a n r) (λ r. 1_000_000 * amount r) (a .positions)
-            (λ r l. row-covered (a .positionAt r .side) (seriesOfRow a r) (a .positionAt r) (paymentOfRow a path r) (remainder a n r) (c path each r l)),
+        sumTo-most (λ r. payEach r * contractsAfter a n r) (λ r. 1_000_000 * amount r) (a .positions)
+            (λ r l. row-covered (a .positionAt r .side) (seriesOfRow a r) (a .positionAt r) (rowPayment a path r) (contractsAfter a n r) (c path each r l)),
       )
     where
       amount : ℕ → ℕ
-      amount r = leftAmount (a .positionAt r .side) (seriesOfRow a r) (a .positionAt r) (remainder a n r)
+      amount r = leftAmount (a .positionAt r .side) (seriesOfRow a r) (a .positionAt r) (contractsAfter a n r)
 
   pub covered-after : RowsCovered a → PairsCovered a
-      → paidOut a path ≤ totalAfter a n * 1_000_000 + sumOver (bringsIn a path) (linesAfter a n)
+      → writtenPayOut a path ≤ totalAfter a n * 1_000_000 + sumOver (lineBringsIn a path) (linesAfter a n)
   covered-after rows pairs =
       omega
-      (arith, paid, weighed (bookOf a) (apart a) (available a) payEach n, amounts a n, rows-covered rows, pairs-covered pairs)
+      (arith, pays-out, weighed (bookOf a) (apart a) (available a) payEach n, amounts a (pairsAfter a n) (contractsAfter a n) (a .positions), rows-covered rows, pairs-covered pairs)
     where
-      paid : paidOut a path ≡ sumTo (λ r. payEach r * available a r) (a .positions)
-      paid = sumTo-same _ _ (a .positions) (λ r l. pays-each (a .positionAt r .side) _ _ _)
+      pays-out : writtenPayOut a path ≡ sumTo (λ r. payEach r * available a r) (a .positions)
+      pays-out = sumTo-same _ _ (a .positions) (λ r l. pays-each (a .positionAt r .side) _ _ _)
 
 pub cover : (a : Account) → RowsCovered a → PairsCovered a → Cover a
 cover a rows pairs path each = rw (total-is a, lines-are a) (covered-after a (a .positions) path each rows pairs)

@@ -1,6 +1,6 @@
 -- How large numbers of an accepted row get: what keeps the code's sums and products within 64 bits.
 -- Assumes nothing.
-use Prim.Native.Nat.{ℕ, _/_, _%_, _≤_, _<_}
+use Prim.Native.Nat.{ℕ, _/_, _%_, _≤_, _<_, max}
 use mathlib.Core.Bool.{Bool, true, false, cond}
 use mathlib.Core.Logic.{_⊎_, inl, inr}
 use mathlib.Core.Path.{_≡_}
@@ -11,7 +11,7 @@ use Rattle.rules.proofs.Mirror.{bare, charge, mirror, most, rule}
 use Rattle.rules.proofs.Tests.{cond-case, ltb-case}
 use Rattle.rules.specs.File.{limiterFlag, limiterOf, positionOf, seriesOf}
 use Rattle.rules.specs.Limits.{PositionWithin, SeriesWithin}
-use Rattle.rules.specs.OnePosition.{knockedIn, limitOr, orRebate, rebate, unitBy, unitMargin}
+use Rattle.rules.specs.OnePosition.{knockedIn, limitOr, rebate, unitBy, unitMargin}
 use Rattle.rules.specs.Quantities.{fine, high, low, minimum}
 use Rattle.rules.specs.declared.Barrier.{Barrier}
 use Rattle.rules.specs.declared.Barrier.the-variants.{NoBarrier, UpIn, DownIn, UpOut, DownOut}
@@ -36,7 +36,7 @@ module _ (n : ℕ) (s : Series) (p : Position) (mm : minimum s ≤ n) (reb : reb
   most-most : (k : OptionType) (x : ℕ) → most k s p x ≤ n
   most-most k x = omega (arith, charge-most k x)
 
-  rebate-most : orRebate s p ≤ n
+  rebate-most : max (minimum s) (rebate p) ≤ n
   rebate-most = omega arith
 
   either-most : (i j x y : ℕ) → x ≤ n → y ≤ n → cond (ltb i j) x y ≤ n
@@ -79,7 +79,7 @@ module _ {n : ℕ} {k : SeriesRow} {r : PositionRow} (s : SeriesWithin k) (w : P
   -- A unit margin is at most 10^14, H at the largest PV and fa.
   pub unit-most : unitMargin (seriesOf k) (positionOf r) ≤ 100_000_000_000_000
   unfolding unitMargin
-  unit-most = by-flag (positionOf r .knocked)
+  unit-most = by-flag (positionOf r .knockedIn)
     where
       by-flag : (t : Bool) → unitBy (seriesOf k .option) (knockedIn t (positionOf r) .barrier) (seriesOf k) (knockedIn t (positionOf r)) ≤ 100_000_000_000_000
       by-flag true =

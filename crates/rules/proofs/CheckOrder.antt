@@ -8,15 +8,15 @@ use Rattle.rules.specs.File.{layout, positionRow, seriesRow, span}
 use Rattle.rules.specs.Lines.{leftLines, lines, linesGiven, listAfter, marginAnswer, pairLines}
 use Rattle.rules.specs.OnePosition.{amountAnswer, positionAmount, unitMargin}
 use Rattle.rules.specs.Pairs.{along, leftAfter, madeAfter, mayOf, through}
-use Rattle.rules.specs.Refusals.{fileRead, matchedFault, positionRowFault, positionRows, refuse, rows, seriesRowFault, seriesRows, trailerFault}
+use Rattle.rules.specs.Refusals.{fileRead, matchedFault, meaning, positionRowFault, positionRows, refuse, refused, rows, seriesRowFault, seriesRows, trailerFault}
 use Rattle.rules.specs.Spreads.{unitSpread}
 use Rattle.rules.specs.declared.AmountAnswer.the-variants.{Amount, NoAmount}
 use Rattle.rules.specs.declared.Fault.the-variants.{Clean, Found}
-use Rattle.rules.specs.declared.FileRead.the-variants.{Accepted, Refused}
+use Rattle.rules.specs.declared.FileRead.the-variants.{Accepted}
 use Rattle.rules.specs.declared.Line.{Line}
 use Rattle.rules.specs.declared.MarginAnswer.the-variants.{NoTotal}
 use Rattle.rules.specs.declared.PositionRow.{PositionRow}
-use Rattle.rules.specs.declared.Refusal.the-variants.{FileSize, Trailer, NoPositions, Distance, SeriesRange, SeriesType, PositionTerms, PositionRange, LimiterPrice, BarrierPrice, BarrierSide, ListTooShort, RowAskedFor}
+use Rattle.rules.specs.declared.Refusal.the-variants.{Trailer, SeriesRange, SeriesType, PositionTerms, PositionRange, LimiterPrice, BarrierPrice, BarrierSide, ListTooShort, RowAskedFor}
 use Rattle.rules.specs.declared.SeriesRow.{SeriesRow}
 
 -- A call series row with the PV, type and spare number given.
@@ -107,29 +107,30 @@ trailerBytes s p d spare = bytes2 s ++ bytes2 p ++ bytes4 d ++ bytes4 spare
 abbrev file : ℕ → ℕ → List ℕ → List ℕ
 file pv spare positions = seriesBytes 3000 0 ++ seriesBytes pv spare ++ positions ++ trailerBytes 2 2 (span 2 2) 0
 
+-- Refusals are given by their number and row.
 pub file-order :
     -- 1 before 2: 11 zero bytes
-    (fileRead (0 ∷ 0 ∷ 0 ∷ 0 ∷ 0 ∷ 0 ∷ 0 ∷ 0 ∷ 0 ∷ 0 ∷ 0 ∷ []) ≡ Refused FileSize 0)
+    (meaning (0 ∷ 0 ∷ 0 ∷ 0 ∷ 0 ∷ 0 ∷ 0 ∷ 0 ∷ 0 ∷ 0 ∷ 0 ∷ []) ≡ refused 1 0)
     -- 2 before 3: s and p both 0; p 0 and a spare byte
-    × (fileRead (trailerBytes 0 0 12 0) ≡ Refused Trailer 0)
-    × (fileRead (trailerBytes 1 0 36 16_777_216) ≡ Refused Trailer 0)
+    × (meaning (trailerBytes 0 0 12 0) ≡ refused 2 0)
+    × (meaning (trailerBytes 1 0 36 16_777_216) ≡ refused 2 0)
     -- 3 before 4: p 0 and a distance longer than the file
-    × (fileRead (trailerBytes 1 0 36 0) ≡ Refused NoPositions 0)
+    × (meaning (trailerBytes 1 0 36 0) ≡ refused 3 0)
     -- 4: the right distance, longer than the file; a wrong one
-    × (fileRead (trailerBytes 1 1 68 0) ≡ Refused Distance 0)
-    × (fileRead (trailerBytes 1 1 12 0) ≡ Refused Distance 0)
+    × (meaning (trailerBytes 1 1 68 0) ≡ refused 4 0)
+    × (meaning (trailerBytes 1 1 12 0) ≡ refused 4 0)
     -- A later series row before an earlier position row: 5 in series row 1, 8 in position row 0
-    × (fileRead (file 0 0 (positionBytes 0 0 0 0 ++ positionBytes 0 0 1 0)) ≡ Refused SeriesRange 1)
+    × (meaning (file 0 0 (positionBytes 0 0 0 0 ++ positionBytes 0 0 1 0)) ≡ refused 5 1)
     -- An earlier row before a later one: 11 in position row 0, 7 in row 1
-    × (fileRead (file 3000 0 (positionBytes 1 0 1 3000 ++ positionBytes 5 0 1 0)) ≡ Refused BarrierSide 0)
+    × (meaning (file 3000 0 (positionBytes 1 0 1 3000 ++ positionBytes 5 0 1 0)) ≡ refused 11 0)
     -- The last row alone
-    × (fileRead (file 3000 0 (positionBytes 1 0 1 3001 ++ positionBytes 2 0 0 2999)) ≡ Refused PositionRange 1)
+    × (meaning (file 3000 0 (positionBytes 1 0 1 3001 ++ positionBytes 2 0 0 2999)) ≡ refused 8 1)
     -- The last spare byte of a series row and of a position row
-    × (fileRead (file 3000 1 (positionBytes 0 0 1 0 ++ positionBytes 0 0 1 0)) ≡ Refused SeriesType 1)
-    × (fileRead (file 3000 0 (positionBytes 0 0 1 0 ++ positionBytes 0 1 1 0)) ≡ Refused PositionTerms 1)
+    × (meaning (file 3000 1 (positionBytes 0 0 1 0 ++ positionBytes 0 0 1 0)) ≡ refused 6 1)
+    × (meaning (file 3000 0 (positionBytes 0 0 1 0 ++ positionBytes 0 1 1 0)) ≡ refused 7 1)
     -- Accepted, after a cover sheet of three bytes that is not read
-    × (fileRead (255 ∷ 1 ∷ 2 ∷ file 3000 0 (positionBytes 1 0 1 3001 ++ positionBytes 2 0 1 2999)) ≡ Accepted (record { series = 2; positions = 2; start = 3; middle = 51 }))
-unfolding fileRead layout seriesRow positionRow seriesRows positionRows rows trailerFault seriesRowFault positionRowFault matchedFault refuse
+    × (fileRead (255 ∷ 1 ∷ 2 ∷ file 3000 0 (positionBytes 1 0 1 3001 ++ positionBytes 2 0 1 2999)) ≡ Accepted (record { series = 2; positions = 2; seriesStart = 3; positionsStart = 51 }))
+unfolding meaning fileRead layout seriesRow positionRow seriesRows positionRows rows trailerFault seriesRowFault positionRowFault matchedFault refuse
 file-order = (refl, refl, refl, refl, refl, refl, refl, refl, refl, refl, refl, refl)
 
 -- Two written rows within the limits, and one row by itself.
@@ -140,7 +141,7 @@ abbrev one : List ℕ
 one = seriesBytes 3000 0 ++ positionBytes 0 0 1 0 ++ trailerBytes 1 1 (span 1 1) 0
 
 abbrev entry : ℕ → Line
-entry n = record { kind = n; first = n; second = n; third = n; fourth = n }
+entry n = record { kind = n; secondNumber = n; thirdNumber = n; fourthNumber = n; fifthNumber = n }
 
 -- The list and the row asked for come after the file.
 pub later-refusals :
@@ -159,6 +160,6 @@ later-refusals = (refl, refl, refl, refl, refl, refl)
 -- "entries after it stay": a list of two entries for one line.
 pub entries-stay :
     listAfter one (entry 7 ∷ entry 8 ∷ [])
-    ≡ record { kind = 2; first = 0; second = 1; third = 2_500; fourth = 0 } ∷ entry 8 ∷ []
+    ≡ record { kind = 2; secondNumber = 0; thirdNumber = 1; fourthNumber = 2_500; fifthNumber = 0 } ∷ entry 8 ∷ []
 unfolding marginAnswer listAfter linesGiven lines leftLines pairLines leftAfter madeAfter through along mayOf unitSpread fileRead layout seriesRow positionRow seriesRows positionRows rows trailerFault seriesRowFault positionRowFault matchedFault refuse unitMargin
 entries-stay = refl

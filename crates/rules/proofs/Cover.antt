@@ -13,7 +13,7 @@ use Rattle.rules.proofs.Payoff.{paid-charged}
 use Rattle.rules.proofs.Tests.{ltb-case}
 use Rattle.rules.proofs.Touch.{In, down-missed, down-reached, down-rises, every-last, inside, up-falls, up-missed, up-reached}
 use Rattle.rules.specs.OnePosition.{normal, unitMargin}
-use Rattle.rules.specs.Paths.{Every, Prices, atOrAbove, atOrBelow, lastOr, paid, payment, payoff, touched}
+use Rattle.rules.specs.Paths.{Every, Prices, atOrAbove, atOrBelow, lastOr, paymentByBarrier, payment, payoffAt, touched}
 use Rattle.rules.specs.Promises.{Covers}
 use Rattle.rules.specs.Quantities.{fine, high, low}
 use Rattle.rules.specs.declared.Barrier.{Barrier}
@@ -49,15 +49,15 @@ module _ (k : OptionType) (s : Series) (p : Position) (a : ℕ) (l : List ℕ) (
 
   charged :
       (lo hi : ℕ) → (k ≡ Call → lastOr a l ≤ hi) → (k ≡ Put → lo ≤ lastOr a l)
-      → payoff k p (lastOr a l) ≤ charge k s p (worst k lo hi)
+      → payoffAt k p (lastOr a l) ≤ charge k s p (worst k lo hi)
   charged lo hi c d = paid-charged k s p (lastOr a l) lo hi last-in c d
 
-  charged-full : payoff k p (lastOr a l) ≤ charge k s p (worst k (low s) (high s))
+  charged-full : payoffAt k p (lastOr a l) ≤ charge k s p (worst k (low s) (high s))
   charged-full = charged (low s) (high s) (λ _. last-in .1) (λ _. last-in .0)
 
   covers-rule :
       (bar : Barrier) → 1_000_000 ≤ s .fa → ((b : ℕ) → k ≡ Put → bar ≡ UpIn b → s .fb ≤ 1_000_000)
-      → paid k bar p (a ∷ l) ≤ rule k bar s p
+      → paymentByBarrier k bar p (a ∷ l) ≤ rule k bar s p
   covers-rule NoBarrier rise fall = omega (arith, charged-full)
   covers-rule (UpIn b) rise fall =
       in-≤ (touched (atOrAbove b) (a ∷ l)) _ _ _ _ _ _ (up-reached (low s) (high s) b (a ∷ l) within)

@@ -16,7 +16,7 @@ use Rattle.rules.proofs.RowFacts.{Beside}
 use Rattle.rules.proofs.Tests.{ltb-case}
 use Rattle.rules.proofs.Touch.{In}
 use Rattle.rules.specs.OnePosition.{normal, rebate, unitMargin}
-use Rattle.rules.specs.Paths.{IsPath, atOrAbove, atOrBelow, inPayment, outPayment, paid, payment, payoff}
+use Rattle.rules.specs.Paths.{IsPath, atOrAbove, atOrBelow, inPayment, outPayment, paymentByBarrier, payment, payoffAt}
 use Rattle.rules.specs.Promises.{Covers, LeastFor}
 use Rattle.rules.specs.Quantities.{fine, high, low, minimum}
 use Rattle.rules.specs.declared.Barrier.{Barrier}
@@ -44,7 +44,7 @@ module _ (k : OptionType) (s : Series) (p : Position) (a : ℕ) where
   -- It covers the charge over lo to hi but for n, if it covers the payoff at each price from lo' to hi' and those lack
   -- at most n prices of lo to hi.
   charged :
-      (n lo hi lo' hi' : ℕ) → ((x : ℕ) → In lo' hi' x → payoff k p x ≤ a)
+      (n lo hi lo' hi' : ℕ) → ((x : ℕ) → In lo' hi' x → payoffAt k p x ≤ a)
       → (lo' ≤ hi') × (lo' ≤ lo + n) × (hi ≤ hi' + n) → charge k s p (worst k lo hi) ≤ a + n
   charged n lo hi lo' hi' f b =
       omega (arith, charged-paid k s p n lo hi lo' hi' (b .1) (b .2), f (worst k lo' hi') (worst-in k lo' hi' (b .0)))
@@ -89,7 +89,7 @@ module _ (k : OptionType) (s : Series) (p : Position) (a : ℕ) where
 
     least-rule :
         (bar : Barrier) → Beside (s .pv) bar → (bar ≡ NoBarrier → p .reb ≡ 0)
-        → ((l : List ℕ) → IsPath s l → paid k bar p l ≤ a) → minimum s ≤ a → rule k bar s p ≤ a + 1
+        → ((l : List ℕ) → IsPath s l → paymentByBarrier k bar p l ≤ a) → minimum s ≤ a → rule k bar s p ≤ a + 1
     least-rule NoBarrier side none cover m =
         let full =
         charged 0 (low s) (high s) (low s) (high s) (λ x i. cover (x ∷ []) (omega arith)) (omega (arith, today)) in

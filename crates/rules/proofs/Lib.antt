@@ -1,6 +1,10 @@
 -- Theorems about the definitions.
--- The checked values of document 01.
+-- The checked values of document 01, and a value for every other rule.
 pub mod CheckedValues
+pub mod MarginTables
+pub mod SpreadTables
+pub mod FileTables
+pub mod RuleValues
 -- Laws of the reading.
 pub mod Tests
 pub mod Chain
@@ -36,3 +40,5 @@ pub mod PairingExample
 pub mod Bounds
 -- Demand 3.
 pub mod Demand3
+-- What the operations answer.
+pub mod Answers

@@ -1,4 +1,5 @@
--- Document 01, Pairs: the lines of an account after n rounds of pairing, for every n, and sums over them.
+-- Document 01, Pairs: sums over pair lines followed by left lines, whatever the pairs, the contracts left and the rows;
+-- and how many lines an account has after n rounds, for every n.
 -- Assumes nothing.
 use Prim.Native.Nat.{ℕ, zero, suc, _+_, _*_, _≤_, _<_, min}
 use mathlib.Core.Bool.{Bool, true, false, cond}
@@ -12,36 +13,23 @@ use Rattle.rules.proofs.Counts.{bound, openRows}
 use Rattle.rules.proofs.Rounds.{named}
 use Rattle.rules.proofs.Sums.{sumOver-append, sumOver-none, sumTo-none, sumTo-only, sumTo-same}
 use Rattle.rules.specs.File.{Account, seriesOfRow}
-use Rattle.rules.specs.Lines.{leftAmount, leftLine, leftLines, lineAmount, lines, pairLine, pairLines, premiums, spreadAmount, sumOver, sumTo, total}
-use Rattle.rules.specs.Pairs.{Made, available, bookOf, leftAfter, madeAfter}
-use Rattle.rules.specs.Promises.{bringsIn, leftQuantity, pairQuantity, paymentOfRow}
+use Rattle.rules.specs.Lines.{leftAmount, leftLine, leftLines, lineAmount, lines, linesAfter, pairLine, pairLines, spreadAmount, sumOver, sumTo, total, totalAfter}
+use Rattle.rules.specs.Pairs.{Made, available, bookOf, contractsAfter, pairsAfter}
+use Rattle.rules.specs.Promises.{lineBringsIn, leftQuantity, pairQuantity, rowPayment}
 use Rattle.rules.specs.declared.Line.{Line}
 use Rattle.rules.specs.declared.Position.{Position}
 use Rattle.rules.specs.declared.Series.{Series}
 use Rattle.rules.specs.declared.Side.{Side}
 use Rattle.rules.specs.declared.Side.the-variants.{Held, Written}
 
--- The pairs of an account after n rounds, and the contracts left in its rows.
-abbrev pub pairsAfter : Account → ℕ → List Made
-pairsAfter a n = madeAfter (bookOf a) n (available a)
-
-abbrev pub remainder : Account → ℕ → ℕ → ℕ
-remainder a n = leftAfter (bookOf a) n (available a)
-
--- The lines after n rounds: the pairs so far, and each row with contracts left.
-abbrev pub linesAfter : Account → ℕ → List Line
-linesAfter a n = pairLines a (pairsAfter a n) ++ leftLines a (remainder a n) (a .positions)
-
-abbrev pub totalAfter : Account → ℕ → ℕ
-totalAfter a n = sumOver lineAmount (linesAfter a n) + premiums a
-
+-- The lines and the total of an account are those after p rounds.
 pub lines-are : (a : Account) → lines a ≡ linesAfter a (a .positions)
 unfolding lines
 lines-are a = refl
 
 pub total-is : (a : Account) → total a ≡ totalAfter a (a .positions)
-unfolding total lines
-total-is a = omega arith
+unfolding total
+total-is a = refl
 
 module _ (a : Account) (f : Line → ℕ) where
   sum-pairs : (l : List Made) → sumOver f (pairLines a l) ≡ sumOver (λ m. f (pairLine a m)) l
@@ -60,12 +48,10 @@ module _ (a : Account) (f : Line → ℕ) where
       go true = omega arith
       go false = refl
 
-  pub sum-lines : (n : ℕ) → sumOver f (linesAfter a n)
-      ≡ sumOver (λ m. f (pairLine a m)) (pairsAfter a n)
-      + sumTo (λ r. cond (ltb 0 (remainder a n r)) (f (leftLine a r (remainder a n r))) 0) (a .positions)
-  sum-lines n =
-      sumOver-append f (pairLines a (pairsAfter a n)) _
-      ∙ ap₂ (λ x y. x + y) (sum-pairs (pairsAfter a n)) (sum-left (remainder a n) (a .positions))
+  pub sum-lines : (l : List Made) (left : ℕ → ℕ) (n : ℕ) → sumOver f (pairLines a l ++ leftLines a left n)
+      ≡ sumOver (λ m. f (pairLine a m)) l + sumTo (λ r. cond (ltb 0 (left r)) (f (leftLine a r (left r))) 0) n
+  sum-lines l left n =
+      sumOver-append f (pairLines a l) _ ∙ ap₂ (λ x y. x + y) (sum-pairs l) (sum-left left n)
 
 same-either : (x : Bool) (n : ℕ) → cond x n n ≡ n
 same-either true n = refl
@@ -83,36 +69,36 @@ none-left : (side : Side) (s : Series) (p : Position) (q : ℕ) → q ≡ 0 → 
 none-left Held s p q e = refl
 none-left Written s p q e = rw e (omega arith)
 
-module _ (a : Account) (n : ℕ) where
-  -- The quantities of the pair lines that name row r are those of the pairs made.
-  pub pair-quantities : (r : ℕ) → sumOver (pairQuantity r) (linesAfter a n) ≡ sumOver (named r) (pairsAfter a n)
+-- The lines of the pairs l, and of rows 0 to n - 1 with the contracts left.
+module _ (a : Account) (l : List Made) (left : ℕ → ℕ) (n : ℕ) where
+  -- The quantities of the pair lines that name row r are those of the pairs.
+  pub pair-quantities : (r : ℕ) → sumOver (pairQuantity r) (pairLines a l ++ leftLines a left n) ≡ sumOver (named r) l
   pair-quantities r =
-      omega (arith, sum-lines a (pairQuantity r) n, sumTo-none _ (a .positions) (λ i l. same-either (ltb 0 (remainder a n i)) 0))
+      omega (arith, sum-lines a (pairQuantity r) l left n, sumTo-none _ n (λ i b. same-either (ltb 0 (left i)) 0))
 
   -- The quantity of row r's left line is what is left in it.
-  pub left-quantities : (r : ℕ) → r < a .positions → sumOver (leftQuantity r) (linesAfter a n) ≡ remainder a n r
-  left-quantities r l = omega (arith, sum-lines a (leftQuantity r) n, sumOver-none (pairsAfter a n), rows)
+  pub left-quantities : (r : ℕ) → r < n → sumOver (leftQuantity r) (pairLines a l ++ leftLines a left n) ≡ left r
+  left-quantities r b = omega (arith, sum-lines a (leftQuantity r) l left n, sumOver-none l, rows)
     where
-      rows : sumTo (λ i. cond (ltb 0 (remainder a n i)) (leftQuantity r (leftLine a i (remainder a n i))) 0) (a .positions) ≡ remainder a n r
+      rows : sumTo (λ i. cond (ltb 0 (left i)) (leftQuantity r (leftLine a i (left i))) 0) n ≡ left r
       rows =
-          sumTo-only _ (a .positions) r l (λ i b d. rw (ne-eqb i r d) (same-either (ltb 0 (remainder a n i)) 0))
-          ∙ rw (eq-eqb r r refl) (no-test (remainder a n r) (remainder a n r) (λ e. e))
+          sumTo-only _ n r b (λ i c d. rw (ne-eqb i r d) (same-either (ltb 0 (left i)) 0))
+          ∙ rw (eq-eqb r r refl) (no-test (left r) (left r) (λ e. e))
 
   -- The amounts of the lines: each pair's, and each written row's for what is left of it.
-  pub amounts : sumOver lineAmount (linesAfter a n)
-      ≡ sumOver (spreadAmount a) (pairsAfter a n)
-      + sumTo (λ r. leftAmount (a .positionAt r .side) (seriesOfRow a r) (a .positionAt r) (remainder a n r)) (a .positions)
+  pub amounts : sumOver lineAmount (pairLines a l ++ leftLines a left n)
+      ≡ sumOver (spreadAmount a) l + sumTo (λ r. leftAmount (a .positionAt r .side) (seriesOfRow a r) (a .positionAt r) (left r)) n
   amounts =
-      sum-lines a lineAmount n
-      ∙ ap (λ x. sumOver (spreadAmount a) (pairsAfter a n) + x)
-      (sumTo-same _ _ (a .positions)
-      (λ r l. no-test (remainder a n r) _ (none-left (a .positionAt r .side) (seriesOfRow a r) (a .positionAt r) (remainder a n r))))
+      sum-lines a lineAmount l left n
+      ∙ ap (λ x. sumOver (spreadAmount a) l + x)
+      (sumTo-same _ _ n
+      (λ r b. no-test (left r) _ (none-left (a .positionAt r .side) (seriesOfRow a r) (a .positionAt r) (left r))))
 
   -- What the lines bring in, the pairs bring in.
-  pub brought : (path : ℕ → List ℕ) → sumOver (bringsIn a path) (linesAfter a n)
-      ≡ sumOver (λ m. paymentOfRow a path (m .held) * seriesOfRow a (m .held) .m * m .quantity) (pairsAfter a n)
+  pub brought : (path : ℕ → List ℕ) → sumOver (lineBringsIn a path) (pairLines a l ++ leftLines a left n)
+      ≡ sumOver (λ m. rowPayment a path (m .held) * seriesOfRow a (m .held) .m * m .quantity) l
   brought path =
-      omega (arith, sum-lines a (bringsIn a path) n, sumTo-none _ (a .positions) (λ i l. same-either (ltb 0 (remainder a n i)) 0))
+      omega (arith, sum-lines a (lineBringsIn a path) l left n, sumTo-none _ n (λ i b. same-either (ltb 0 (left i)) 0))
 
 pub pairLines-append : (a : Account) (l m : List Made) → pairLines a (l ++ m) ≡ pairLines a l ++ pairLines a m
 unfolding pairLines
@@ -135,12 +121,14 @@ length-leftLines a left (suc r) =
     go true e = omega (arith, ltb-true)
     go false e = omega (arith, ltb-false)
 
-pub length-lines : (a : Account) (n : ℕ) → length (linesAfter a n) ≡ length (pairsAfter a n) + openRows (bookOf a) (remainder a n)
-unfolding openRows
-length-lines a n =
-    length-append (pairLines a (pairsAfter a n)) _
-    ∙ ap₂ (λ x y. x + y) (length-pairLines a (pairsAfter a n)) (length-leftLines a (remainder a n) (a .positions))
+pub length-lines : (a : Account) (l : List Made) (left : ℕ → ℕ) (n : ℕ)
+    → length (pairLines a l ++ leftLines a left n) ≡ length l + sumTo (λ r. min 1 (left r)) n
+length-lines a l left n =
+    length-append (pairLines a l) _ ∙ ap₂ (λ x y. x + y) (length-pairLines a l) (length-leftLines a left n)
 
 -- "The line count is at most p"
 pub line-count : (a : Account) (n : ℕ) → length (linesAfter a n) ≤ a .positions
-line-count a n = omega (arith, length-lines a n, bound (bookOf a) (available a) n)
+unfolding openRows
+line-count a n =
+    omega
+    (arith, length-lines a (pairsAfter a n) (contractsAfter a n) (a .positions), bound (bookOf a) (available a) n)

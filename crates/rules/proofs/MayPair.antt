@@ -10,7 +10,7 @@ use Rattle.rules.proofs.Tests.{both}
 use Rattle.rules.proofs.Weights.{Apart}
 use Rattle.rules.specs.File.{Account, seriesOfRow}
 use Rattle.rules.specs.OnePosition.{unitMargin}
-use Rattle.rules.specs.Pairs.{bookOf, europeanOrOld, gapOf, isHeld, isWritten, lowers, mayOf, mayPair}
+use Rattle.rules.specs.Pairs.{bookOf, europeanOrBeforeAnnex, gapOf, isHeld, isWritten, lowers, mayOf, mayPair}
 use Rattle.rules.specs.Spreads.{unitSpread}
 use Rattle.rules.specs.declared.Position.{Position}
 use Rattle.rules.specs.declared.Series.{Series}
@@ -25,8 +25,8 @@ pub record Pairable (s : Series) (w h : Position) : Type 0 where
   pub is-written : w .side ≡ Written
   pub is-held : h .side ≡ Held
   pub one-series : w .series ≡ h .series
-  pub written-terms : europeanOrOld w ≡ true
-  pub held-terms : europeanOrOld h ≡ true
+  pub written-terms : europeanOrBeforeAnnex w ≡ true
+  pub held-terms : europeanOrBeforeAnnex h ≡ true
   pub spread : ℕ
   pub spread-is : unitSpread s h w ≡ Margin spread
   pub spread-less : spread < unitMargin s w
@@ -55,9 +55,9 @@ five p q r s t e =
 pub pairable-if : (s : Series) (w h : Position) → mayPair s w h ≡ true → Pairable s w h
 pairable-if s w h e =
     let tests =
-    five (isWritten (w .side)) (isHeld (h .side)) (eqb (w .series) (h .series)) (europeanOrOld w && europeanOrOld h)
+    five (isWritten (w .side)) (isHeld (h .side)) (eqb (w .series) (h .series)) (europeanOrBeforeAnnex w && europeanOrBeforeAnnex h)
     (lowers (unitMargin s w) (unitSpread s h w)) e in
-    let terms = both (europeanOrOld w) (europeanOrOld h) (tests .3) in
+    let terms = both (europeanOrBeforeAnnex w) (europeanOrBeforeAnnex h) (tests .3) in
     let less = lowered (unitMargin s w) (unitSpread s h w) (tests .4) in
     record {
       is-written = side-written (w .side) (tests .0);

@@ -1,12 +1,12 @@
 -- The unit margin in one form for calls and puts, over the price that costs the writer most, and the law that it is the
 -- unit margin of document 01.
 -- Assumes nothing.
-use Prim.Native.Nat.{ℕ, _*_}
+use Prim.Native.Nat.{ℕ, _*_, max}
 use mathlib.Core.Bool.{cond}
 use mathlib.Core.Path.{_≡_, refl}
 use lib.Dec.{ltb}
-use Rattle.rules.specs.OnePosition.{callPayoff, orEither, orMinimum, orRebate, putPayoff, unitBy}
-use Rattle.rules.specs.Quantities.{fine, high, low}
+use Rattle.rules.specs.OnePosition.{callPayoff, putPayoff, rebate, unitBy}
+use Rattle.rules.specs.Quantities.{fine, high, low, minimum}
 use Rattle.rules.specs.declared.Barrier.{Barrier}
 use Rattle.rules.specs.declared.Barrier.the-variants.{NoBarrier, UpIn, DownIn, UpOut, DownOut}
 use Rattle.rules.specs.declared.OptionType.{OptionType}
@@ -26,19 +26,19 @@ charge Put s p x = putPayoff s p x
 
 -- max(MM; C) or max(MM; P)
 abbrev pub bare : OptionType → Series → Position → ℕ → ℕ
-bare k s p x = orMinimum s (charge k s p x)
+bare k s p x = max (minimum s) (charge k s p x)
 
 -- max(MM; REB; C) or max(MM; REB; P)
 abbrev pub most : OptionType → Series → Position → ℕ → ℕ
-most k s p x = orEither s p (charge k s p x)
+most k s p x = max (minimum s) (max (rebate p) (charge k s p x))
 
 -- The unit margin by the barrier.
 abbrev pub rule : OptionType → Barrier → Series → Position → ℕ
 rule k NoBarrier s p = most k s p (worst k (low s) (high s))
 rule k (UpIn b) s p =
-    cond (ltb (high s) (fine b)) (orRebate s p) (most k s p (worst k (b * s .fb) (high s)))
+    cond (ltb (high s) (fine b)) (max (minimum s) (rebate p)) (most k s p (worst k (b * s .fb) (high s)))
 rule k (DownIn b) s p =
-    cond (ltb (fine b) (low s)) (orRebate s p) (most k s p (worst k (low s) (b * s .fa)))
+    cond (ltb (fine b) (low s)) (max (minimum s) (rebate p)) (most k s p (worst k (low s) (b * s .fa)))
 rule k (UpOut b) s p =
     cond (ltb (high s) (fine b)) (bare k s p (worst k (low s) (high s)))
     (most k s p (worst k (low s) (fine b)))

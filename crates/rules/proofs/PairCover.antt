@@ -13,9 +13,9 @@ use Rattle.rules.proofs.Tests.{cond-case}
 use Rattle.rules.proofs.Touch.{In, down-further, down-missed, down-reached, every-last, inside, up-further, up-missed, up-reached}
 use Rattle.rules.specs.File.{barrierOf}
 use Rattle.rules.specs.OnePosition.{normal}
-use Rattle.rules.specs.Paths.{Every, IsPath, atOrAbove, atOrBelow, capped, floored, lastOr, paid, payment, payoff, touched}
+use Rattle.rules.specs.Paths.{Every, IsPath, atOrAbove, atOrBelow, capped, floored, lastOr, paymentByBarrier, payment, payoffAt, touched}
 use Rattle.rules.specs.Quantities.{fine, high, low}
-use Rattle.rules.specs.Spreads.{downOutSpread, downReached, kindOf, limiterBars, oneKindSpread, outLoss, outSpread, priceOf, same, spreadBetween, strikeCovers, strikeLoss, unitSpread, upOutSpread, upReached}
+use Rattle.rules.specs.Spreads.{downOutSpread, downReached, kindOf, limiterBars, oneKindSpread, D, outSpread, priceOf, same, spreadBetween, strikeCovers, strikeLoss, unitSpread, upOutSpread, upReached}
 use Rattle.rules.specs.declared.Barrier.{Barrier}
 use Rattle.rules.specs.declared.Barrier.the-variants.{NoBarrier, UpIn, DownIn, UpOut, DownOut}
 use Rattle.rules.specs.declared.Limiter.{Limiter}
@@ -52,18 +52,18 @@ unbarred k (At pb) w z e = absurd (true≢false e)
 -- Payoffs at one price.
 module _ (h w : Position) (z : ℕ) where
   strike-owes :
-      (k : OptionType) → Cut k (h .limiter) (w .limiter) z → payoff k w z ≤ strikeLoss k h w + payoff k h z
+      (k : OptionType) → Cut k (h .limiter) (w .limiter) z → payoffAt k w z ≤ strikeLoss k h w + payoffAt k h z
   strike-owes Call c = omega arith
   strike-owes Put c = omega arith
 
   strike-covers :
-      (k : OptionType) → Cut k (h .limiter) (w .limiter) z → strikeCovers k h w ≡ true → payoff k w z ≤ payoff k h z
+      (k : OptionType) → Cut k (h .limiter) (w .limiter) z → strikeCovers k h w ≡ true → payoffAt k w z ≤ payoffAt k h z
   strike-covers Call c e = omega (arith, leb-true (h .pe) (w .pe) e)
   strike-covers Put c e = omega (arith, leb-true (w .pe) (h .pe) e)
 
   out-owes :
       (k : OptionType) (lo hi : ℕ) → Cut k (h .limiter) (w .limiter) z → In lo hi z
-      → payoff k w z ≤ outLoss k lo hi h w + payoff k h z
+      → payoffAt k w z ≤ D k lo hi h w + payoffAt k h z
   out-owes Call lo hi c i = omega arith
   out-owes Put lo hi c i = omega arith
 
@@ -123,7 +123,7 @@ module _ (s : Series) (h w : Position) (a : ℕ) (l : List ℕ) (within : Every 
   module _ (cut : Cut (s .option) (h .limiter) (w .limiter) (lastOr a l)) where
     up-out :
         (ouh ouw : ℕ) → ouw ≤ ouh
-        → paid (s .option) (UpOut ouw) w (a ∷ l) ≤ upOutSpread s ouh ouw h w + paid (s .option) (UpOut ouh) h (a ∷ l)
+        → paymentByBarrier (s .option) (UpOut ouw) w (a ∷ l) ≤ upOutSpread s ouh ouw h w + paymentByBarrier (s .option) (UpOut ouh) h (a ∷ l)
     up-out ouh ouw o =
         out-pair (touched (atOrAbove ouw) (a ∷ l)) (touched (atOrAbove ouh) (a ∷ l)) (eqb ouh ouw) _ _ s _ _ _ _ _
         (λ e. le-leb (fine ouw) (high s) (up-reached (low s) (high s) ouw (a ∷ l) within e))
@@ -134,7 +134,7 @@ module _ (s : Series) (h w : Position) (a : ℕ) (l : List ℕ) (within : Every 
 
     down-out :
         (odh odw : ℕ) → odh ≤ odw
-        → paid (s .option) (DownOut odw) w (a ∷ l) ≤ downOutSpread s odh odw h w + paid (s .option) (DownOut odh) h (a ∷ l)
+        → paymentByBarrier (s .option) (DownOut odw) w (a ∷ l) ≤ downOutSpread s odh odw h w + paymentByBarrier (s .option) (DownOut odh) h (a ∷ l)
     down-out odh odw o =
         out-pair (touched (atOrBelow odw) (a ∷ l)) (touched (atOrBelow odh) (a ∷ l)) (eqb odh odw) _ _ s _ _ _ _ _
         (λ e. le-leb (low s) (fine odw) (down-reached (low s) (high s) odw (a ∷ l) within e))
@@ -145,8 +145,8 @@ module _ (s : Series) (h w : Position) (a : ℕ) (l : List ℕ) (within : Every 
 
     one-kind :
         (bar : Barrier) (price : ℕ)
-        → Covered (oneKindSpread bar price s h w) (paid (s .option) bar w (a ∷ l))
-        (paid (s .option) (barrierOf (kindOf bar) price) h (a ∷ l))
+        → Covered (oneKindSpread bar price s h w) (paymentByBarrier (s .option) bar w (a ∷ l))
+        (paymentByBarrier (s .option) (barrierOf (kindOf bar) price) h (a ∷ l))
     one-kind NoBarrier price = strike-owes h w (lastOr a l) (s .option) cut
     one-kind (UpIn iuw) price = tt
     one-kind (DownIn idw) price = tt
@@ -157,7 +157,7 @@ module _ (s : Series) (h w : Position) (a : ℕ) (l : List ℕ) (within : Every 
 
   -- The rules in their order, of normalised rows.
   spread-covered :
-      Covered (spreadBetween s h w) (paid (s .option) (w .barrier) w (a ∷ l)) (paid (s .option) (h .barrier) h (a ∷ l))
+      Covered (spreadBetween s h w) (paymentByBarrier (s .option) (w .barrier) w (a ∷ l)) (paymentByBarrier (s .option) (h .barrier) h (a ∷ l))
   spread-covered =
       cond-covered (same h w) _ _ _ _ (λ (e : same h w ≡ true). omega (arith, same-paid (s .option) h w (a ∷ l) e))
       (λ _. cond-covered (limiterBars (h .limiter) (w .limiter)) _ _ _ _ (λ _. tt)

@@ -7,7 +7,7 @@ use native.Mathlib.Omega.{arith}
 use Rattle.rules.proofs.Mirror.{charge, worst}
 use Rattle.rules.proofs.Touch.{In}
 use Rattle.rules.specs.OnePosition.{limitOr}
-use Rattle.rules.specs.Paths.{capped, floored, payoff}
+use Rattle.rules.specs.Paths.{capped, floored, payoffAt}
 use Rattle.rules.specs.Quantities.{high, low}
 use Rattle.rules.specs.declared.Limiter.{Limiter}
 use Rattle.rules.specs.declared.Limiter.the-variants.{NoLimiter, At}
@@ -35,7 +35,7 @@ floored-paid (At pb) x z l a b = omega arith
 -- put that lo does.
 pub paid-charged :
     (k : OptionType) (s : Series) (p : Position) (z lo hi : ℕ) → In (low s) (high s) z
-    → (k ≡ Call → z ≤ hi) → (k ≡ Put → lo ≤ z) → payoff k p z ≤ charge k s p (worst k lo hi)
+    → (k ≡ Call → z ≤ hi) → (k ≡ Put → lo ≤ z) → payoffAt k p z ≤ charge k s p (worst k lo hi)
 paid-charged Call s p z lo hi i c d = omega (arith, capped-paid (p .limiter) hi z (high s) (i .1) (c refl))
 paid-charged Put s p z lo hi i c d = omega (arith, floored-paid (p .limiter) lo z (low s) (i .0) (d refl))
 
@@ -51,6 +51,6 @@ floored-charged (At pb) n x z l a = omega arith
 -- The charge over lo to hi is at most the payoff at the worst of other prices, but for n if those lack at most n.
 pub charged-paid :
     (k : OptionType) (s : Series) (p : Position) (n lo hi lo' hi' : ℕ) → lo' ≤ lo + n → hi ≤ hi' + n
-    → charge k s p (worst k lo hi) ≤ payoff k p (worst k lo' hi') + n
+    → charge k s p (worst k lo hi) ≤ payoffAt k p (worst k lo' hi') + n
 charged-paid Call s p n lo hi lo' hi' a b = omega (arith, capped-charged (p .limiter) n hi hi' (high s) b)
 charged-paid Put s p n lo hi lo' hi' a b = omega (arith, floored-charged (p .limiter) n lo lo' (low s) a)

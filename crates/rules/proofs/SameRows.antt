@@ -7,7 +7,7 @@ use mathlib.Core.Path.{_≡_, refl, ap, sym, _∙_}
 use borrow.Author.Tests.{eqb-true}
 use lib.Dec.{eqb}
 use Rattle.rules.specs.File.{barrierOf}
-use Rattle.rules.specs.Paths.{last, paid, payoff}
+use Rattle.rules.specs.Paths.{last, paymentByBarrier, payoffAt}
 use Rattle.rules.specs.Spreads.{kindOf, priceOf, same, sameBarrier, sameLimiter}
 use Rattle.rules.specs.declared.Barrier.{Barrier}
 use Rattle.rules.specs.declared.Barrier.the-variants.{NoBarrier, UpIn, DownIn, UpOut, DownOut}
@@ -42,11 +42,11 @@ same-limiter (At h) (At w) e = ap At (eqb-true h w e)
 
 -- A payment looks at the strike, the limiter and the rebate, besides the barrier.
 module _ (h w : Position) (pe : h .pe ≡ w .pe) (lim : h .limiter ≡ w .limiter) (reb : h .reb ≡ w .reb) where
-  payoff-same : (k : OptionType) (z : ℕ) → payoff k h z ≡ payoff k w z
+  payoff-same : (k : OptionType) (z : ℕ) → payoffAt k h z ≡ payoffAt k w z
   payoff-same Call z = cc
   payoff-same Put z = cc
 
-  paid-same : (k : OptionType) (bar : Barrier) (l : List ℕ) → paid k bar h l ≡ paid k bar w l
+  paid-same : (k : OptionType) (bar : Barrier) (l : List ℕ) → paymentByBarrier k bar h l ≡ paymentByBarrier k bar w l
   paid-same k NoBarrier l = payoff-same k (last l)
   paid-same k (UpIn b) l = cc (payoff-same k (last l))
   paid-same k (DownIn b) l = cc (payoff-same k (last l))
@@ -55,7 +55,7 @@ module _ (h w : Position) (pe : h .pe ≡ w .pe) (lim : h .limiter ≡ w .limite
 
 pub same-paid :
     (k : OptionType) (h w : Position) (l : List ℕ) → same h w ≡ true
-    → paid k (h .barrier) h l ≡ paid k (w .barrier) w l
+    → paymentByBarrier k (h .barrier) h l ≡ paymentByBarrier k (w .barrier) w l
 same-paid k h w l e =
     let pe = eqb (h .pe) (w .pe) in
     let lim = sameLimiter (h .limiter) (w .limiter) in
@@ -66,5 +66,5 @@ same-paid k h w l e =
     let same-pe = eqb-true (h .pe) (w .pe) (z .0) in
     let same-lim = same-limiter (h .limiter) (w .limiter) (z .1) in
     let same-reb = eqb-true (h .reb) (w .reb) (x .1) in
-    ap (λ b. paid k b h l) (same-barrier (h .barrier) (w .barrier) (y .1))
+    ap (λ b. paymentByBarrier k b h l) (same-barrier (h .barrier) (w .barrier) (y .1))
     ∙ paid-same h w same-pe same-lim same-reb k (w .barrier) l

@@ -1,6 +1,6 @@
 -- What a path tells: where a barrier was touched, and how its last price lies to every price before it.
 -- Assumes nothing.
-use Prim.Native.Nat.{ℕ, _*_, _≤_, _<_}
+use Prim.Native.Nat.{ℕ, zero, suc, _*_, _≤_, _<_}
 use mathlib.Core.Bool.{Bool, true, false, false≢true, true≢false}
 use mathlib.Core.List.{List, [], _∷_}
 use mathlib.Core.Path.{_≡_, sym, _∙_}
@@ -8,7 +8,7 @@ use borrow.Author.Tests.{le-leb, leb-false, leb-true}
 use native.Mathlib.Nat.{mul-le-mul-left, mul-le-mul-right}
 use native.Mathlib.Omega.{arith}
 use Rattle.rules.proofs.Tests.{neither, or-case}
-use Rattle.rules.specs.Paths.{Every, Prices, Step, atOrAbove, atOrBelow, lastOr, touched}
+use Rattle.rules.specs.Paths.{Every, IsPath, Prices, Step, atOrAbove, atOrBelow, lastOr, touched}
 use Rattle.rules.specs.Quantities.{fine, high, low}
 use Rattle.rules.specs.declared.Series.{Series}
 
@@ -106,3 +106,23 @@ down-rises s w b x l i e =
     hit (λ y. fine z ≤ y * s .fa) (atOrBelow b) (x ∷ l)
     (ends s (λ y z. fine z ≤ y * s .fa) (λ y. mul-le-mul-left y w) (λ y z st. st .1) x l i) e in
     omega (arith, t .1, mul-le-mul-right (s .fa) (leb-true (t .0) (fine b) (t .2)))
+
+-- "A path is a non-empty list of prices", of any length: today's price n + 1 times is one.
+abbrev copies : ℕ → ℕ → List ℕ
+copies zero x = []
+copies (suc n) x = x ∷ copies n x
+
+every-copy : (P : ℕ → Type 0) (n x : ℕ) → P x → Every P (copies n x)
+every-copy P zero x h = tt
+every-copy P (suc n) x h = (h, every-copy P n x h)
+
+pub steady : (s : Series) → s .fb ≤ 1_000_000 → 1_000_000 ≤ s .fa → (n : ℕ) → IsPath s (copies (suc n) (fine (s .pv)))
+steady s falls rises n = go (suc n)
+  where
+    go : (m : ℕ) → Prices s (copies m (fine (s .pv)))
+    go zero = tt
+    go (suc m) =
+        let low : s .pv * s .fb ≤ s .pv * 1_000_000 = mul-le-mul-left (s .pv) falls in
+        let high : s .pv * 1_000_000 ≤ s .pv * s .fa = mul-le-mul-left (s .pv) rises in
+        let step : Step s (fine (s .pv)) (fine (s .pv)) = (mul-le-mul-left (fine (s .pv)) falls, mul-le-mul-left (fine (s .pv)) rises) in
+        (low, high, every-copy (Step s (fine (s .pv))) m (fine (s .pv)) step, go m)

@@ -1,7 +1,7 @@
 -- A trailer without fault is one within its limits, and the other way round; and then every row stands within the
 -- file.
 -- Assumes nothing.
-use Prim.Native.Nat.{ℕ, _+_, _*_, _≤_}
+use Prim.Native.Nat.{ℕ, _+_, _*_, _≤_, _<_}
 use mathlib.Core.Bool.{not}
 use mathlib.Core.List.{List}
 use mathlib.Core.Path.{_≡_, refl, ap}
@@ -13,6 +13,7 @@ use Rattle.rules.specs.File.{distance, layout, positionCount, seriesCoun
 use Rattle.rules.specs.Limits.{Placed, TrailerWithin}
 use Rattle.rules.specs.Refusals.{noPositions, nonzero, outside, refuse, trailerFault, wrongDistance, wrongSize, wrongTrailer}
 use Rattle.rules.specs.declared.Fault.the-variants.{Clean}
+use Rattle.rules.specs.declared.Layout.{Layout}
 use Rattle.rules.specs.declared.Refusal.the-variants.{FileSize, Trailer, NoPositions, Distance}
 use Rattle.rules.proofs.Chain.{clean, in-range, inside, is-zero, none-of-three, passed, three-fail, zero-is}
 use Rattle.rules.proofs.Tests.{both-fail, neither}
@@ -71,6 +72,15 @@ module _ (b : List ℕ) where
         size-most = h .size-most;
         series-most = h .series-most;
         positions-most = h .positions-most;
-        middle-is = refl;
+        positions-start-is = refl;
         room = omega arith;
       }
+
+  -- What `Placed` grants who reads a row: small counts and a small file, series rows that end before the position rows,
+  -- and position rows that end before the trailer.
+  pub placed-rows : (l : Layout) → Placed b l
+      → (length b ≤ 65_536) × (l .series ≤ 32) × (l .positions ≤ 256)
+      × ((i : ℕ) → i < l .series → l .seriesStart + 24 * i + 24 ≤ l .positionsStart)
+      × ((i : ℕ) → i < l .positions → l .positionsStart + 32 * i + 32 + 12 ≤ length b)
+  placed-rows l p =
+      (p .size-most, p .series-most, p .positions-most, (λ i h. omega (arith, p .positions-start-is)), (λ i h. omega (arith, p .room)))

@@ -57,8 +57,8 @@ layout b =
     record {
       series = seriesCount b;
       positions = positionCount b;
-      start = length b - distance b;
-      middle = length b - distance b + 24 * seriesCount b;
+      seriesStart = length b - distance b;
+      positionsStart = length b - distance b + 24 * seriesCount b;
     }
 
 -- "Series row, 24 bytes: PV u32 .. fa u32 .. fb u32 .. f3 u32 .. M u32 .. type u8 .. three zero bytes."
@@ -76,7 +76,7 @@ seriesRowFrom b at =
 
 -- Series row i of a file with the layout l.
 unfoldable pub seriesRow : List ℕ → Layout → ℕ → SeriesRow
-seriesRow b l i = seriesRowFrom b (l .start + 24 * i)
+seriesRow b l i = seriesRowFrom b (l .seriesStart + 24 * i)
 
 -- "Position row, 32 bytes: series u16 .. side u8 .. barrier kind u8; flags u8; three zero bytes; then u32 each: Q ..
 -- PE .. PB; barrier price; REB .. unsettled premium".
@@ -98,7 +98,7 @@ positionRowFrom b at =
 
 -- Position row i of a file with the layout l.
 unfoldable pub positionRow : List ℕ → Layout → ℕ → PositionRow
-positionRow b l i = positionRowFrom b (l .middle + 32 * i)
+positionRow b l i = positionRowFrom b (l .positionsStart + 32 * i)
 
 -- "type u8, 0 call, 1 put"
 abbrev pub optionOf : ℕ → OptionType
@@ -124,8 +124,8 @@ limiterFlag flags = eqb (flags / 2 % 2) 1
 abbrev pub europeanFlag : ℕ → Bool
 europeanFlag flags = eqb (flags / 4 % 2) 1
 
-abbrev pub oldFlag : ℕ → Bool
-oldFlag flags = eqb (flags / 8 % 2) 1
+abbrev pub beforeAnnexFlag : ℕ → Bool
+beforeAnnexFlag flags = eqb (flags / 8 % 2) 1
 
 -- "Without the limiter flag PB is 0. With it" PB is the limiter.
 abbrev pub limiterOf : ℕ → ℕ → Limiter
@@ -151,9 +151,9 @@ positionOf r =
       side = sideOf (r .side);
       barrier = barrierOf (r .kind) (r .price);
       limiter = limiterOf (r .flags) (r .pb);
-      knocked = knockedInFlag (r .flags);
+      knockedIn = knockedInFlag (r .flags);
       european = europeanFlag (r .flags);
-      old = oldFlag (r .flags);
+      beforeAnnex = beforeAnnexFlag (r .flags);
       q = r .q;
       pe = r .pe;
       reb = r .reb;

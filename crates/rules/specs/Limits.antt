@@ -82,5 +82,5 @@ pub record Placed (b : List ℕ) (l : Layout) : Type 0 where
   pub size-most : length b ≤ 65_536
   pub series-most : l .series ≤ 32
   pub positions-most : l .positions ≤ 256
-  pub middle-is : l .middle ≡ l .start + 24 * l .series
-  pub room : l .middle + 32 * l .positions + 12 ≤ length b
+  pub positions-start-is : l .positionsStart ≡ l .seriesStart + 24 * l .series
+  pub room : l .positionsStart + 32 * l .positions + 12 ≤ length b

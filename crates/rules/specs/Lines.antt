@@ -6,7 +6,7 @@ use lib.Dec.{eqb, ltb}
 use lib.ListN.{length, drop}
 use Rattle.rules.specs.File.{Account, accountOf, seriesOfRow}
 use Rattle.rules.specs.OnePosition.{amountOf, premiumOf, unitMargin}
-use Rattle.rules.specs.Pairs.{Made, contractsLeft, pairsMade}
+use Rattle.rules.specs.Pairs.{Made, contractsAfter, pairsAfter}
 use Rattle.rules.specs.Refusals.{fileRead}
 use Rattle.rules.specs.Spreads.{unitSpread}
 use Rattle.rules.specs.declared.FileRead.{FileRead}
@@ -48,10 +48,10 @@ abbrev pub pairLine : Account → Made → Line
 pairLine a m =
     record {
       kind = 1;
-      first = m .written;
-      second = m .held;
-      third = m .quantity;
-      fourth = spreadAmount a m;
+      secondNumber = m .written;
+      thirdNumber = m .held;
+      fourthNumber = m .quantity;
+      fifthNumber = spreadAmount a m;
     }
 
 unfoldable pub pairLines : Account → List Made → List Line
@@ -68,10 +68,10 @@ abbrev pub leftLine : Account → ℕ → ℕ → Line
 leftLine a r quantity =
     record {
       kind = 2;
-      first = r;
-      second = quantity;
-      third = leftAmount (a .positionAt r .side) (seriesOfRow a r) (a .positionAt r) quantity;
-      fourth = 0;
+      secondNumber = r;
+      thirdNumber = quantity;
+      fourthNumber = leftAmount (a .positionAt r .side) (seriesOfRow a r) (a .positionAt r) quantity;
+      fifthNumber = 0;
     }
 
 -- "then rows with contracts left, in row order": rows 0 to n - 1.
@@ -79,13 +79,18 @@ unfoldable pub leftLines : Account → (ℕ → ℕ) → ℕ → List Line
 leftLines a left zero = []
 leftLines a left (suc r) = leftLines a left r ++ cond (ltb 0 (left r)) (leftLine a r (left r) ∷ []) []
 
--- The lines of an account.
+-- The lines of an account after n rounds of pairing: the pairs so far, then each row with contracts left.
+abbrev pub linesAfter : Account → ℕ → List Line
+linesAfter a n = pairLines a (pairsAfter a n) ++ leftLines a (contractsAfter a n) (a .positions)
+
+-- "Repeat until no pair is allowed." A pair leaves one of its rows without contracts, so p rounds are always enough: after
+-- them no pair is allowed (`Demand3.unmade`). These are the lines of an account.
 unfoldable pub lines : Account → List Line
-lines a = pairLines a (pairsMade a) ++ leftLines a (contractsLeft a) (a .positions)
+lines a = linesAfter a (a .positions)
 
 -- A line's amount: a pair's is its fifth number, a left row's its fourth.
 abbrev pub lineAmount : Line → ℕ
-lineAmount x = cond (eqb (x .kind) 1) (x .fourth) (x .third)
+lineAmount x = cond (eqb (x .kind) 1) (x .fifthNumber) (x .fourthNumber)
 
 -- "premium × M × Q of every held row, paired or not"
 abbrev pub heldPremium : Side → Series → Position → ℕ
@@ -95,9 +100,12 @@ heldPremium Written s p = 0
 unfoldable pub premiums : Account → ℕ
 premiums a = sumTo (λ r. heldPremium (a .positionAt r .side) (seriesOfRow a r) (a .positionAt r)) (a .positions)
 
--- "Total = line amounts + premium × M × Q of every held row"
+-- "Total = line amounts + premium × M × Q of every held row", after n rounds and of the account.
+abbrev pub totalAfter : Account → ℕ → ℕ
+totalAfter a n = sumOver lineAmount (linesAfter a n) + premiums a
+
 unfoldable pub total : Account → ℕ
-total a = sumOver lineAmount (lines a) + premiums a
+total a = totalAfter a (a .positions)
 
 -- The answer for a file and a list of n entries: the reading's refusal, then 12, "list has fewer than p entries", with
 -- row 0; else the line count and the total.

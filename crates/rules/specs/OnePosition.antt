@@ -32,9 +32,9 @@ knockedIn true p =
       side = p .side;
       barrier = NoBarrier;
       limiter = p .limiter;
-      knocked = p .knocked;
+      knockedIn = p .knockedIn;
       european = p .european;
-      old = p .old;
+      beforeAnnex = p .beforeAnnex;
       q = p .q;
       pe = p .pe;
       reb = 0;
@@ -43,7 +43,7 @@ knockedIn true p =
 
 -- The normalised position: after flag 1.
 abbrev pub normal : Position → Position
-normal p = knockedIn (p .knocked) p
+normal p = knockedIn (p .knockedIn) p
 
 -- REB in fine units.
 abbrev pub rebate : Position → ℕ
@@ -68,55 +68,43 @@ callPayoff s p h = min (callLimit s p) h - fine (p .pe)
 abbrev pub putPayoff : Series → Position → ℕ → ℕ
 putPayoff s p l = fine (p .pe) - max (putLimit s p) l
 
--- max(MM; REB)
-abbrev pub orRebate : Series → Position → ℕ
-orRebate s p = max (minimum s) (rebate p)
-
--- max(MM; x), the maximums with MM and without REB
-abbrev pub orMinimum : Series → ℕ → ℕ
-orMinimum s x = max (minimum s) x
-
--- max(MM; REB; x), the maximums with both
-abbrev pub orEither : Series → Position → ℕ → ℕ
-orEither s p x = max (minimum s) (max (rebate p) x)
-
 -- The unit margin of a written call, by its barrier.
 abbrev pub callUnit : Barrier → Series → Position → ℕ
 -- "Up-and-in with H < IU .. max(MM; REB)", otherwise max(MM; REB; C)
 callUnit (UpIn iu) s p =
-    cond (ltb (high s) (fine iu)) (orRebate s p) (orEither s p (callPayoff s p (high s)))
+    cond (ltb (high s) (fine iu)) (max (minimum s) (rebate p)) (max (minimum s) (max (rebate p) (callPayoff s p (high s))))
 -- "down-and-in with L > ID: max(MM; REB)"; "Call, down-and-in, L ≤ ID: from here H is ID × fa"
 callUnit (DownIn id) s p =
-    cond (ltb (fine id) (low s)) (orRebate s p) (orEither s p (callPayoff s p (id * s .fa)))
+    cond (ltb (fine id) (low s)) (max (minimum s) (rebate p)) (max (minimum s) (max (rebate p) (callPayoff s p (id * s .fa))))
 -- "Down-and-out call: L > OD gives max(MM; C), else max(MM; REB; C)"
 callUnit (DownOut od) s p =
-    cond (ltb (fine od) (low s)) (orMinimum s (callPayoff s p (high s)))
-    (orEither s p (callPayoff s p (high s)))
+    cond (ltb (fine od) (low s)) (max (minimum s) (callPayoff s p (high s)))
+    (max (minimum s) (max (rebate p) (callPayoff s p (high s))))
 -- "Up-and-out call: H < OU gives max(MM; C), else max(MM; REB; min(PB; OU) − PE)"
 callUnit (UpOut ou) s p =
-    cond (ltb (high s) (fine ou)) (orMinimum s (callPayoff s p (high s)))
-    (orEither s p (callPayoff s p (fine ou)))
+    cond (ltb (high s) (fine ou)) (max (minimum s) (callPayoff s p (high s)))
+    (max (minimum s) (max (rebate p) (callPayoff s p (fine ou))))
 -- "Otherwise max(MM; REB; C)"
-callUnit NoBarrier s p = orEither s p (callPayoff s p (high s))
+callUnit NoBarrier s p = max (minimum s) (max (rebate p) (callPayoff s p (high s)))
 
 -- The unit margin of a written put, by its barrier.
 abbrev pub putUnit : Barrier → Series → Position → ℕ
 -- "Up-and-in with H < IU .. max(MM; REB)"; "Put, up-and-in, H ≥ IU: from here L is IU × fb"
 putUnit (UpIn iu) s p =
-    cond (ltb (high s) (fine iu)) (orRebate s p) (orEither s p (putPayoff s p (iu * s .fb)))
+    cond (ltb (high s) (fine iu)) (max (minimum s) (rebate p)) (max (minimum s) (max (rebate p) (putPayoff s p (iu * s .fb))))
 -- "down-and-in with L > ID: max(MM; REB)", otherwise max(MM; REB; P)
 putUnit (DownIn id) s p =
-    cond (ltb (fine id) (low s)) (orRebate s p) (orEither s p (putPayoff s p (low s)))
+    cond (ltb (fine id) (low s)) (max (minimum s) (rebate p)) (max (minimum s) (max (rebate p) (putPayoff s p (low s))))
 -- "Up-and-out put: H < OU gives max(MM; P), else max(MM; REB; P)"
 putUnit (UpOut ou) s p =
-    cond (ltb (high s) (fine ou)) (orMinimum s (putPayoff s p (low s)))
-    (orEither s p (putPayoff s p (low s)))
+    cond (ltb (high s) (fine ou)) (max (minimum s) (putPayoff s p (low s)))
+    (max (minimum s) (max (rebate p) (putPayoff s p (low s))))
 -- "Down-and-out put: L > OD gives max(MM; P), else max(MM; REB; PE − max(PB; OD))"
 putUnit (DownOut od) s p =
-    cond (ltb (fine od) (low s)) (orMinimum s (putPayoff s p (low s)))
-    (orEither s p (putPayoff s p (fine od)))
+    cond (ltb (fine od) (low s)) (max (minimum s) (putPayoff s p (low s)))
+    (max (minimum s) (max (rebate p) (putPayoff s p (fine od))))
 -- "Otherwise .. max(MM; REB; P)"
-putUnit NoBarrier s p = orEither s p (putPayoff s p (low s))
+putUnit NoBarrier s p = max (minimum s) (max (rebate p) (putPayoff s p (low s)))
 
 -- The rules of the series' type.
 abbrev pub unitBy : OptionType → Barrier → Series → Position → ℕ

@@ -45,12 +45,12 @@ lineFeed = 10 ∷ []
 -- "pairs as made (written row, held row, quantity, amount)"
 unfoldable pub pairText : Line → List ℕ
 pairText x =
-    ((((pairWord ++ numberText (x .first)) ++ numberText (x .second)) ++ numberText (x .third)) ++ numberText (x .fourth))
+    ((((pairWord ++ numberText (x .secondNumber)) ++ numberText (x .thirdNumber)) ++ numberText (x .fourthNumber)) ++ numberText (x .fifthNumber))
     ++ lineFeed
 
 -- "rows with contracts left, in row order (row, quantity, amount, 0 if held)"
 unfoldable pub leftText : Line → List ℕ
-leftText x = (((leftWord ++ numberText (x .first)) ++ numberText (x .second)) ++ numberText (x .third)) ++ lineFeed
+leftText x = (((leftWord ++ numberText (x .secondNumber)) ++ numberText (x .thirdNumber)) ++ numberText (x .fourthNumber)) ++ lineFeed
 
 -- A line, by its kind.
 abbrev pub lineText : Line → List ℕ

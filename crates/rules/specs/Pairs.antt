@@ -25,8 +25,8 @@ isHeld Held = true
 isHeld Written = false
 
 -- "both European or opened before the annex": each row is one or the other.
-abbrev pub europeanOrOld : Position → Bool
-europeanOrOld p = p .european || p .old
+abbrev pub europeanOrBeforeAnnex : Position → Bool
+europeanOrBeforeAnnex p = p .european || p .beforeAnnex
 
 -- "the written unit margin is greater than the spread's". A barred pair has none.
 abbrev pub lowers : ℕ → Spread → Bool
@@ -40,7 +40,7 @@ mayPair s w h =
     isWritten (w .side)
     && isHeld (h .side)
     && eqb (w .series) (h .series)
-    && (europeanOrOld w && europeanOrOld h)
+    && (europeanOrBeforeAnnex w && europeanOrBeforeAnnex h)
     && lowers (unitMargin s w) (unitSpread s h w)
 
 -- "strike difference, without sign": one of the two differences is 0.
@@ -86,12 +86,14 @@ aheadOf k w h (Pair v g) = ahead k w h v g
 abbrev pub look : Book → (ℕ → ℕ) → ℕ → ℕ → Choice → Choice
 look k left w h best = cond (allowed k left w h && aheadOf k w h best) (Pair w h) best
 
--- Written row w with each of held rows 0 to n - 1.
+-- Written row w with each of held rows 0 to n - 1: the best so far, or the pair of w that comes before it and before
+-- all others of w.
 unfoldable pub along : Book → (ℕ → ℕ) → ℕ → ℕ → Choice → Choice
 along k left w zero best = best
 along k left w (suc h) best = look k left w h (along k left w h best)
 
--- Written rows 0 to n - 1 with every held row.
+-- Written rows 0 to n - 1 with every held row. What `along` and `through` find is an allowed pair that no allowed pair
+-- comes before, or none where none is allowed: the laws `Search.choice-allowed`, `choice-least` and `choice-none`.
 unfoldable pub through : Book → (ℕ → ℕ) → ℕ → Choice
 through k left zero = NoPair
 through k left (suc w) = along k left w (k .rows) (through k left w)
@@ -130,11 +132,9 @@ madeAfter k (suc n) left = madeAfter k n left ++ madeBy (leftAfter k n left) (ch
 abbrev pub available : Account → ℕ → ℕ
 available a r = a .positionAt r .q
 
--- "Repeat until no pair is allowed." A pair leaves one of its rows without contracts, so p rounds are always enough:
--- after them no pair is allowed.
-abbrev pub pairsMade : Account → List Made
-pairsMade a = madeAfter (bookOf a) (a .positions) (available a)
+-- The pairs of an account after n rounds, and the contracts then left in each row.
+abbrev pub pairsAfter : Account → ℕ → List Made
+pairsAfter a n = madeAfter (bookOf a) n (available a)
 
--- The contracts left in each row after all pairs.
-abbrev pub contractsLeft : Account → ℕ → ℕ
-contractsLeft a = leftAfter (bookOf a) (a .positions) (available a)
+abbrev pub contractsAfter : Account → ℕ → ℕ → ℕ
+contractsAfter a n = leftAfter (bookOf a) n (available a)

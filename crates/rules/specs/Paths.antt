@@ -1,4 +1,6 @@
--- Document 01, Paths: paths, touch and payment.
+-- Document 01, Paths: paths, touch and payment. The names, from the inside out: `payoffAt` is what the option is worth at
+-- the last price, without barriers; `inPayment`, `outPayment` and `paymentByBarrier` are what a normalised position pays on
+-- a path; `payment` is document 01's payment, of any position. What rows pay out and pairs bring in is in `Promises`.
 use Prim.Native.Nat.{ℕ, _*_, _-_, _≤_, min, max}
 use mathlib.Core.Bool.{Bool, false, cond, _||_}
 use mathlib.Core.List.{List, [], _∷_}
@@ -29,7 +31,8 @@ abbrev pub Prices : Series → List ℕ → Type 0
 Prices s [] = Unit {0}
 Prices s (p ∷ l) = (low s ≤ p) × (p ≤ high s) × Every (Step s p) l × Prices s l
 
--- "A path is a non-empty list of prices"
+-- "A path is a non-empty list of prices". "Early exercise is a path that ends there": a path may end at any of its prices,
+-- and pays by the last one.
 abbrev pub IsPath : Series → List ℕ → Type 0
 IsPath s [] = ⊥
 IsPath s (p ∷ l) = Prices s (p ∷ l)
@@ -63,27 +66,27 @@ abbrev pub floored : Limiter → ℕ → ℕ
 floored NoLimiter x = x
 floored (At pb) x = max (fine pb) x
 
--- "max(0; min(PB; last) − PE) or max(0; PE − max(PB; last))"
-abbrev pub payoff : OptionType → Position → ℕ → ℕ
-payoff Call p x = capped (p .limiter) x - fine (p .pe)
-payoff Put p x = fine (p .pe) - floored (p .limiter) x
+-- "max(0; min(PB; last) − PE) or max(0; PE − max(PB; last))", where x is the last price.
+abbrev pub payoffAt : OptionType → Position → ℕ → ℕ
+payoffAt Call p x = capped (p .limiter) x - fine (p .pe)
+payoffAt Put p x = fine (p .pe) - floored (p .limiter) x
 
 -- "A position pays REB per unit if .. never knocked in; else" its payoff at the last price.
 abbrev pub inPayment : OptionType → (ℕ → Bool) → Position → List ℕ → ℕ
-inPayment k touches p l = cond (touched touches l) (payoff k p (last l)) (rebate p)
+inPayment k touches p l = cond (touched touches l) (payoffAt k p (last l)) (rebate p)
 
 -- "A position pays REB per unit if knocked out .. else" its payoff at the last price.
 abbrev pub outPayment : OptionType → (ℕ → Bool) → Position → List ℕ → ℕ
-outPayment k touches p l = cond (touched touches l) (rebate p) (payoff k p (last l))
+outPayment k touches p l = cond (touched touches l) (rebate p) (payoffAt k p (last l))
 
--- What a normalised position pays, by its barrier.
-abbrev pub paid : OptionType → Barrier → Position → List ℕ → ℕ
-paid k NoBarrier p l = payoff k p (last l)
-paid k (UpIn iu) p l = inPayment k (atOrAbove iu) p l
-paid k (DownIn id) p l = inPayment k (atOrBelow id) p l
-paid k (UpOut ou) p l = outPayment k (atOrAbove ou) p l
-paid k (DownOut od) p l = outPayment k (atOrBelow od) p l
+-- What a normalised position pays on a path, by its barrier.
+abbrev pub paymentByBarrier : OptionType → Barrier → Position → List ℕ → ℕ
+paymentByBarrier k NoBarrier p l = payoffAt k p (last l)
+paymentByBarrier k (UpIn iu) p l = inPayment k (atOrAbove iu) p l
+paymentByBarrier k (DownIn id) p l = inPayment k (atOrBelow id) p l
+paymentByBarrier k (UpOut ou) p l = outPayment k (atOrAbove ou) p l
+paymentByBarrier k (DownOut od) p l = outPayment k (atOrBelow od) p l
 
 -- What a position pays on a path of its series, "per unit, in fine units". A row with flag 1 is knocked in already.
 unfoldable pub payment : Series → Position → List ℕ → ℕ
-payment s p l = paid (s .option) (normal p .barrier) (normal p) l
+payment s p l = paymentByBarrier (s .option) (normal p .barrier) (normal p) l

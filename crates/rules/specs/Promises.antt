@@ -25,40 +25,42 @@ LowFactors a = (i : ℕ) → i < a .series → a .seriesAt i .fb ≤ 1_000_000
 abbrev pub OnePathEach : Account → (ℕ → List ℕ) → Type 0
 OnePathEach a path = (i : ℕ) → i < a .series → IsPath (a .seriesAt i) (path i)
 
--- "All rows of a series follow its path."
-abbrev pub paymentOfRow : Account → (ℕ → List ℕ) → ℕ → ℕ
-paymentOfRow a path r = payment (seriesOfRow a r) (a .positionAt r) (path (a .positionAt r .series))
+-- The payment of row r: "All rows of a series follow its path."
+abbrev pub rowPayment : Account → (ℕ → List ℕ) → ℕ → ℕ
+rowPayment a path r = payment (seriesOfRow a r) (a .positionAt r) (path (a .positionAt r .series))
 
--- "A written row pays out its payment × M × Q."
-abbrev pub paysOut : Side → ℕ → ℕ → ℕ → ℕ
-paysOut Held pays m q = 0
-paysOut Written pays m q = pays * m * q
+-- "A written row pays out its payment × M × Q." A held row pays nothing out.
+abbrev pub rowPaysOut : Side → ℕ → ℕ → ℕ → ℕ
+rowPaysOut Held pays m q = 0
+rowPaysOut Written pays m q = pays * m * q
 
-abbrev pub paidOut : Account → (ℕ → List ℕ) → ℕ
-paidOut a path =
-    sumTo (λ r. paysOut (a .positionAt r .side) (paymentOfRow a path r) (seriesOfRow a r .m) (a .positionAt r .q))
+-- "what the written rows pay out", "summed over the whole account"
+abbrev pub writtenPayOut : Account → (ℕ → List ℕ) → ℕ
+writtenPayOut a path =
+    sumTo (λ r. rowPaysOut (a .positionAt r .side) (rowPayment a path r) (seriesOfRow a r .m) (a .positionAt r .q))
     (a .positions)
 
 -- "A pair brings in its held row's payment × M × the pair's quantity"; "held contracts outside the pairs bring in
 -- nothing". A pair line's numbers are 1, written row, held row, quantity, amount.
-abbrev pub bringsIn : Account → (ℕ → List ℕ) → Line → ℕ
-bringsIn a path x =
-    cond (eqb (x .kind) 1) (paymentOfRow a path (x .second) * seriesOfRow a (x .second) .m * x .third) 0
+abbrev pub lineBringsIn : Account → (ℕ → List ℕ) → Line → ℕ
+lineBringsIn a path x =
+    cond (eqb (x .kind) 1) (rowPayment a path (x .thirdNumber) * seriesOfRow a (x .thirdNumber) .m * x .fourthNumber) 0
 
-abbrev pub broughtIn : Account → (ℕ → List ℕ) → ℕ
-broughtIn a path = sumOver (bringsIn a path) (lines a)
+-- "what the pairs bring in", "summed over the whole account"
+abbrev pub pairsBringIn : Account → (ℕ → List ℕ) → ℕ
+pairsBringIn a path = sumOver (lineBringsIn a path) (lines a)
 
 -- "for every choice of one path for each series, total × 1,000,000 plus what the pairs bring in is at least what the
 -- written rows pay out."
 abbrev pub Cover : Account → Type 0
-Cover a = (path : ℕ → List ℕ) → OnePathEach a path → paidOut a path ≤ total a * 1_000_000 + broughtIn a path
+Cover a = (path : ℕ → List ℕ) → OnePathEach a path → writtenPayOut a path ≤ total a * 1_000_000 + pairsBringIn a path
 
 -- The quantity of a pair line that names row r, and of the left line of row r.
 abbrev pub pairQuantity : ℕ → Line → ℕ
-pairQuantity r x = cond (eqb (x .kind) 1 && (eqb (x .first) r || eqb (x .second) r)) (x .third) 0
+pairQuantity r x = cond (eqb (x .kind) 1 && (eqb (x .secondNumber) r || eqb (x .thirdNumber) r)) (x .fourthNumber) 0
 
 abbrev pub leftQuantity : ℕ → Line → ℕ
-leftQuantity r x = cond (eqb (x .kind) 2 && eqb (x .first) r) (x .second) 0
+leftQuantity r x = cond (eqb (x .kind) 2 && eqb (x .secondNumber) r) (x .thirdNumber) 0
 
 -- "for every row, the quantities of the pair lines that name it and the quantity of its left line (0 if it has none)
 -- add up to Q."

@@ -1,6 +1,9 @@
--- Document 01, Quantities. Every number here is a natural number and `-` stops at 0. That loses nothing: each
--- difference of prices or rebates in document 01 stands in a maximum with MM or with 0, and neither is negative. The two
--- other differences say at their definition why nothing is lost (`Pairs.strikeDifference`, `Promises.unpaired`).
+-- Document 01, Quantities. Every number here is a natural number, and a difference `x - y` is 0 where y is greater. The
+-- payoffs and rebate differences of document 01 that can be negative, C, P, D, R and those of Paths, stand in a maximum with
+-- MM or with 0 there, so that 0 in their place changes nothing. Every other difference takes at most what is there: a
+-- place counted back from a file's end (`File`; a file too short for it is refused, with 1 or 4, before it is looked at),
+-- contracts that a pair uses (`Pairs.taken`, `Promises.unpaired`), and the two of `Pairs.strikeDifference`, of which one
+-- is 0.
 use Prim.Native.Nat.{ℕ, _*_}
 use Rattle.rules.specs.declared.Series.{Series}
 

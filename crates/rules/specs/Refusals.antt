@@ -19,7 +19,8 @@ use Rattle.rules.specs.declared.Refusal.{Refusal}
 use Rattle.rules.specs.declared.Refusal.the-variants.{FileSize, Trailer, NoPositions, Distance, SeriesRange, SeriesType, PositionTerms, PositionRange, LimiterPrice, BarrierPrice, BarrierSide, ListTooShort, RowAskedFor}
 use Rattle.rules.specs.declared.SeriesRow.{SeriesRow}
 
--- The table's column "Number".
+-- The table's column "Number". Refusals 1 to 11 are a file's and tested here; 12 is tested in `Lines.marginForList`, for
+-- the caller's list, and 13 in `OnePosition.amountForRow`, for the row asked for, each after the file.
 abbrev pub number : Refusal → ℕ
 number FileSize = 1
 number Trailer = 2
@@ -172,6 +173,8 @@ orElse Clean i next = next
 orElse (Found w) i next = Refused w i
 
 -- "each row whole before the next": rows 0 to n - 1 of a table, whose faults f gives, and then what comes after it.
+-- Row n - 1 stands innermost, so that row 0 is looked at first. What this finds is the first row with a fault, or that
+-- there is none: the laws `Scan.rows-stop` and `Scan.rows-clean`.
 unfoldable pub rows : (ℕ → Fault) → ℕ → FileRead → FileRead
 rows f zero next = next
 rows f (suc n) next = rows f n (orElse (f n) n next)

@@ -2,8 +2,8 @@
 use Prim.Native.Nat.{ℕ, _-_, min, max}
 use mathlib.Core.Bool.{Bool, true, false, cond, _&&_, _||_}
 use lib.Dec.{eqb, leb}
-use Rattle.rules.specs.OnePosition.{normal, orMinimum, rebate}
-use Rattle.rules.specs.Quantities.{fine, high, low}
+use Rattle.rules.specs.OnePosition.{normal, rebate}
+use Rattle.rules.specs.Quantities.{fine, high, low, minimum}
 use Rattle.rules.specs.declared.Barrier.{Barrier}
 use Rattle.rules.specs.declared.Barrier.the-variants.{NoBarrier, UpIn, DownIn, UpOut, DownOut}
 use Rattle.rules.specs.declared.Limiter.{Limiter}
@@ -41,7 +41,7 @@ sameLimiter NoLimiter (At pbw) = false
 sameLimiter (At pbh) NoLimiter = false
 sameLimiter (At pbh) (At pbw) = eqb pbh pbw
 
--- "Same PE, limiter, barrier and REB after flag 1 is applied"
+-- "Same PE, limiter, barrier and REB after flag 1 is applied" (annex section 5, a)
 abbrev pub same : Position → Position → Bool
 same h w =
     eqb (h .pe) (w .pe)
@@ -58,7 +58,7 @@ hasLimiter (At pb) = true
 abbrev pub limiterBars : Limiter → Limiter → Bool
 limiterBars h w = hasLimiter h || hasLimiter w
 
--- "No barriers: max(0; PEh − PEw) for calls, max(0; PEw − PEh) for puts."
+-- "No barriers: max(0; PEh − PEw) for calls, max(0; PEw − PEh) for puts." (annex section 5, b and c)
 abbrev pub strikeLoss : OptionType → Position → Position → ℕ
 strikeLoss Call h w = fine (h .pe) - fine (w .pe)
 strikeLoss Put h w = fine (w .pe) - fine (h .pe)
@@ -68,20 +68,23 @@ abbrev pub strikeCovers : OptionType → Position → Position → Bool
 strikeCovers Call h w = leb (h .pe) (w .pe)
 strikeCovers Put h w = leb (w .pe) (h .pe)
 
--- "R = REBw, or max(0; REBw − REBh) where the barriers are equal"
-abbrev pub rebateLoss : Bool → Position → Position → ℕ
-rebateLoss barriersEqual h w = cond barriersEqual (rebate w - rebate h) (rebate w)
+-- "R = REBw, or max(0; REBw − REBh) where the barriers are equal" (annex section 5, items d.1, e.1, f.1 and g.1)
+abbrev pub R : Bool → Position → Position → ℕ
+R barriersEqual h w = cond barriersEqual (rebate w - rebate h) (rebate w)
 
--- "for calls D = min(PEh; H) − PEw .. for puts D = PEw − max(PEh; L)", at the H and L in force.
-abbrev pub outLoss : OptionType → ℕ → ℕ → Position → Position → ℕ
-outLoss Call l h held w = min (fine (held .pe)) h - fine (w .pe)
-outLoss Put l h held w = fine (w .pe) - max (fine (held .pe)) l
+-- "for calls D = min(PEh; H) − PEw .. for puts D = PEw − max(PEh; L)", at the L and H in force (items 4 and 5 of d, e, f
+-- and g).
+abbrev pub D : OptionType → ℕ → ℕ → Position → Position → ℕ
+D Call l h held w = min (fine (held .pe)) h - fine (w .pe)
+D Put l h held w = fine (w .pe) - max (fine (held .pe)) l
 
 -- "Call with PEh ≤ PEw, put with PEh ≥ PEw: R if reachable, else 0. The others: max(MM; D), with R in the maximum too
--- if reachable". The first test is the strikes' and the second whether the written barrier is reachable.
+-- if reachable". The first test is the strikes' and the second whether the written barrier is reachable; r is R and d is
+-- D. Annex items d.3, e.3, f.3 and g.3, R alone, "omit M × Q, and we read it in": a unit here, as in every other item,
+-- is multiplied by M and the quantity in `Lines.spreadAmount`.
 abbrev pub outSpread : Bool → Bool → Series → ℕ → ℕ → ℕ
 outSpread covers reachable s r d =
-    cond covers (cond reachable r 0) (cond reachable (orMinimum s (max r d)) (orMinimum s d))
+    cond covers (cond reachable r 0) (cond reachable (max (minimum s) (max r d)) (max (minimum s) d))
 
 -- "The written barrier is reachable if L ≤ ODw or H ≥ OUw."
 abbrev pub downReached : Series → ℕ → Bool
@@ -90,17 +93,17 @@ downReached s odw = leb (low s) (fine odw)
 abbrev pub upReached : Series → ℕ → Bool
 upReached s ouw = leb (fine ouw) (high s)
 
--- Both down-and-out: "L replaced by ODw where that is reachable".
+-- Both down-and-out (annex section 5, d for calls and f for puts): "L replaced by ODw where that is reachable".
 abbrev pub downOutSpread : Series → ℕ → ℕ → Position → Position → ℕ
 downOutSpread s odh odw h w =
-    outSpread (strikeCovers (s .option) h w) (downReached s odw) s (rebateLoss (eqb odh odw) h w)
-    (outLoss (s .option) (cond (downReached s odw) (fine odw) (low s)) (high s) h w)
+    outSpread (strikeCovers (s .option) h w) (downReached s odw) s (R (eqb odh odw) h w)
+    (D (s .option) (cond (downReached s odw) (fine odw) (low s)) (high s) h w)
 
--- Both up-and-out: "H replaced by OUw where that is reachable".
+-- Both up-and-out (annex section 5, e for calls and g for puts): "H replaced by OUw where that is reachable".
 abbrev pub upOutSpread : Series → ℕ → ℕ → Position → Position → ℕ
 upOutSpread s ouh ouw h w =
-    outSpread (strikeCovers (s .option) h w) (upReached s ouw) s (rebateLoss (eqb ouh ouw) h w)
-    (outLoss (s .option) (low s) (cond (upReached s ouw) (fine ouw) (high s)) h w)
+    outSpread (strikeCovers (s .option) h w) (upReached s ouw) s (R (eqb ouh ouw) h w)
+    (D (s .option) (low s) (cond (upReached s ouw) (fine ouw) (high s)) h w)
 
 -- Two rows whose barriers are of one kind: the written row's barrier and the held row's barrier price.
 abbrev pub oneKindSpread : Barrier → ℕ → Series → Position → Position → Spread

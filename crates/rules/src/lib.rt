@@ -71,9 +71,9 @@ pub struct Position {
     pub side: Side,
     pub barrier: Barrier,
     pub limiter: Limiter,
-    pub knocked: bool,
+    pub knockedIn: bool,
     pub european: bool,
-    pub old: bool,
+    pub beforeAnnex: bool,
     pub q: u32,
     pub pe: u32,
     pub reb: u32,
@@ -85,8 +85,8 @@ pub struct Position {
 pub struct Layout {
     pub series: usize,
     pub positions: usize,
-    pub start: usize,
-    pub middle: usize,
+    pub seriesStart: usize,
+    pub positionsStart: usize,
 }
 
 // Why a file or a call is turned back, in the order of document 01's table.
@@ -147,10 +147,10 @@ pub enum Choice {
 #[repr(C)]
 pub struct Line {
     pub kind: u64,
-    pub first: u64,
-    pub second: u64,
-    pub third: u64,
-    pub fourth: u64,
+    pub secondNumber: u64,
+    pub thirdNumber: u64,
+    pub fourthNumber: u64,
+    pub fifthNumber: u64,
 }
 
 // A file's margin: how many lines and the total in centavos, or the refusal with its row.

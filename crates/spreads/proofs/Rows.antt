@@ -11,7 +11,7 @@ use Rattle.account.specs.Known.{Known}
 use Rattle.position.proofs.RowsFit.{at-row}
 use Rattle.rules.specs.File.{Account, accountOf, seriesOfRow}
 use Rattle.rules.specs.OnePosition.{unitMargin}
-use Rattle.rules.specs.Pairs.{europeanOrOld, isHeld, isWritten, lowers, mayOf}
+use Rattle.rules.specs.Pairs.{europeanOrBeforeAnnex, isHeld, isWritten, lowers, mayOf}
 use Rattle.rules.specs.Spreads.{unitSpread}
 use Rattle.rules.specs.declared.Layout.{Layout}
 use Rattle.rules.specs.declared.Position.{Position}
@@ -28,7 +28,7 @@ meet w h =
     isWritten (w .side)
     && isHeld (h .side)
     && eqb (w .series) (h .series)
-    && (europeanOrOld w && europeanOrOld h)
+    && (europeanOrBeforeAnnex w && europeanOrBeforeAnnex h)
 
 module _ (a : Account) (w h : ℕ) (written held : Position) (ew : written ≡ a .positionAt w) (eh : held ≡ a .positionAt h) where
   meet-at : (t : Bool) → t ≡ meet written held → t ≡ meet (a .positionAt w) (a .positionAt h)

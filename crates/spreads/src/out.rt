@@ -13,11 +13,11 @@ use rules::Position;
 use rules::Series;
 ghost use mathlib.Core.Bool.{cond};
 ghost use mathlib.Core.Path.{_≡_};
-ghost use Rattle.rules.specs.Spreads.{downOutSpread, outLoss, outSpread, rebateLoss, upOutSpread};
+ghost use Rattle.rules.specs.Spreads.{downOutSpread, D, outSpread, R, upOutSpread};
 
 // R: REBw, or max(0; REBw − REBh) where the barriers are equal.
 fn rebate_loss(equal: bool, h: Position, w: Position) -> u64
-    ensures { λ r. ⌜ r ≡ rebateLoss equal h w ⌝ }
+    ensures { λ r. ⌜ r ≡ R equal h w ⌝ }
 {
     if equal {
         return less(rebate_of(w), rebate_of(h));
@@ -27,7 +27,7 @@ fn rebate_loss(equal: bool, h: Position, w: Position) -> u64
 
 // D at the low and high price in force.
 fn out_loss(option: OptionType, low: u64, high: u64, h: Position, w: Position) -> u64
-    ensures { λ r. ⌜ r ≡ outLoss option low high h w ⌝ }
+    ensures { λ r. ⌜ r ≡ D option low high h w ⌝ }
 {
     match option {
         OptionType::Call => less(smaller(fine_units(h.pe), high), fine_units(w.pe)),

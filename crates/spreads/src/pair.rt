@@ -1,6 +1,6 @@
 // Whether a written and a held row of an accepted file pair, and their spread's unit.
 use crate::spread::unit_spread;
-use crate::terms::european_or_old;
+use crate::terms::european_or_before_annex;
 use crate::terms::is_held;
 use crate::terms::is_written;
 use account::lookup::position_at;
@@ -16,18 +16,18 @@ ghost use Rattle.account.specs.Known.{Known};
 ghost use Rattle.rules.specs.File.{accountOf, seriesOfRow};
 ghost use Rattle.rules.specs.Lines.{spreadUnit};
 ghost use Rattle.rules.specs.OnePosition.{unitMargin};
-ghost use Rattle.rules.specs.Pairs.{europeanOrOld, isHeld, isWritten, lowers, mayOf};
+ghost use Rattle.rules.specs.Pairs.{europeanOrBeforeAnnex, isHeld, isWritten, lowers, mayOf};
 ghost use Rattle.rules.specs.Spreads.{unitSpread};
 
 // One written and one held row of a series, both European or opened before the annex.
 fn may_meet(w: Position, h: Position) -> bool
-    ensures { λ r. ⌜ r ≡ (isWritten (w .side) && isHeld (h .side) && eqb (w .series) (h .series) && (europeanOrOld w && europeanOrOld h)) ⌝ }
+    ensures { λ r. ⌜ r ≡ (isWritten (w .side) && isHeld (h .side) && eqb (w .series) (h .series) && (europeanOrBeforeAnnex w && europeanOrBeforeAnnex h)) ⌝ }
 {
     let side = w.side;
     let written = is_written(side);
     let side = h.side;
     let held = is_held(side);
-    let both = european_or_old(w) & european_or_old(h);
+    let both = european_or_before_annex(w) & european_or_before_annex(h);
     written & held & (w.series == h.series) & both
 }
 

@@ -5,7 +5,7 @@ use rules::OptionType;
 use rules::Position;
 use rules::Side;
 ghost use mathlib.Core.Path.{_≡_};
-ghost use Rattle.rules.specs.Pairs.{europeanOrOld, isHeld, isWritten};
+ghost use Rattle.rules.specs.Pairs.{europeanOrBeforeAnnex, isHeld, isWritten};
 ghost use Rattle.rules.specs.Spreads.{hasLimiter, kindOf, priceOf, same, sameLimiter, strikeCovers};
 
 pub fn kind_of(barrier: Barrier) -> u32
@@ -99,8 +99,8 @@ pub fn is_held(side: Side) -> bool
     }
 }
 
-pub fn european_or_old(p: Position) -> bool
-    ensures { λ r. ⌜ r ≡ europeanOrOld p ⌝ }
+pub fn european_or_before_annex(p: Position) -> bool
+    ensures { λ r. ⌜ r ≡ europeanOrBeforeAnnex p ⌝ }
 {
-    p.european | p.old
+    p.european | p.beforeAnnex
 }

@@ -13,8 +13,8 @@ use Rattle.statement.proofs.PutLaws.{put-none, put-then}
 use Rattle.statement.specs.Puts.{Put}
 
 module _ {t0 t1 t2 t3 t4 t5 t6 : List ℕ} {at p1 p2 p3 p4 p5 end : ℕ} (x : Line) where
-  pub pair-put : Put t0 t1 at p1 pairWord → Put t1 t2 p1 p2 (numberText (x .first)) → Put t2 t3 p2 p3 (numberText (x .second))
-      → Put t3 t4 p3 p4 (numberText (x .third)) → Put t4 t5 p4 p5 (numberText (x .fourth)) → Put t5 t6 p5 end lineFeed
+  pub pair-put : Put t0 t1 at p1 pairWord → Put t1 t2 p1 p2 (numberText (x .secondNumber)) → Put t2 t3 p2 p3 (numberText (x .thirdNumber))
+      → Put t3 t4 p3 p4 (numberText (x .fourthNumber)) → Put t4 t5 p4 p5 (numberText (x .fifthNumber)) → Put t5 t6 p5 end lineFeed
       → p2 ≤ p1 + 21 → p3 ≤ p2 + 21 → p4 ≤ p3 + 21 → p5 ≤ p4 + 21
       → Put t0 t6 at end (pairText x) × (end ≤ at + 90)
   unfolding pairText
@@ -22,8 +22,8 @@ module _ {t0 t1 t2 t3 t4 t5 t6 : List ℕ} {at p1 p2 p3 p4 p5 end : ℕ} (x : Li
       (put-then _ _ (put-then _ _ (put-then _ _ (put-then _ _ (put-then _ _ a b) c) d) e) f, omega (arith, a .end-is, f .end-is, i, j, k, l))
 
 module _ {t0 t1 t2 t3 t4 t5 : List ℕ} {at p1 p2 p3 p4 end : ℕ} (x : Line) where
-  pub left-put : Put t0 t1 at p1 leftWord → Put t1 t2 p1 p2 (numberText (x .first)) → Put t2 t3 p2 p3 (numberText (x .second))
-      → Put t3 t4 p3 p4 (numberText (x .third)) → Put t4 t5 p4 end lineFeed
+  pub left-put : Put t0 t1 at p1 leftWord → Put t1 t2 p1 p2 (numberText (x .secondNumber)) → Put t2 t3 p2 p3 (numberText (x .thirdNumber))
+      → Put t3 t4 p3 p4 (numberText (x .fourthNumber)) → Put t4 t5 p4 end lineFeed
       → p2 ≤ p1 + 21 → p3 ≤ p2 + 21 → p4 ≤ p3 + 21
       → Put t0 t5 at end (leftText x) × (end ≤ at + 90)
   unfolding leftText

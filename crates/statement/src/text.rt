@@ -19,11 +19,11 @@ fn put_pair(text: &mut [u8], at: usize, line: Line) -> usize
     ensures { λ r. ⌜ Put (now (text .entry)) (now (text .exit)) at r (pairText line) × (r ≤ at + 90) ⌝ }
 {
     let word = put_word(text, at, b"pair");
-    let first = put_number(text, word, line.first);
-    let second = put_number(text, first, line.second);
-    let third = put_number(text, second, line.third);
-    let fourth = put_number(text, third, line.fourth);
-    put_word(text, fourth, b"\n")
+    let second = put_number(text, word, line.secondNumber);
+    let third = put_number(text, second, line.thirdNumber);
+    let fourth = put_number(text, third, line.fourthNumber);
+    let fifth = put_number(text, fourth, line.fifthNumber);
+    put_word(text, fifth, b"\n")
 }
 
 // A row left: row, contracts and amount.
@@ -32,10 +32,10 @@ fn put_left(text: &mut [u8], at: usize, line: Line) -> usize
     ensures { λ r. ⌜ Put (now (text .entry)) (now (text .exit)) at r (leftText line) × (r ≤ at + 90) ⌝ }
 {
     let word = put_word(text, at, b"left");
-    let first = put_number(text, word, line.first);
-    let second = put_number(text, first, line.second);
-    let third = put_number(text, second, line.third);
-    put_word(text, third, b"\n")
+    let second = put_number(text, word, line.secondNumber);
+    let third = put_number(text, second, line.thirdNumber);
+    let fourth = put_number(text, third, line.fourthNumber);
+    put_word(text, fourth, b"\n")
 }
 
 // A line, by its kind.

@@ -8,14 +8,14 @@ is-written-requires c κs = search needs
 is-held-requires : tie.Need-is-held-requires
 is-held-requires c κs = search needs
 
-european-or-old-requires : tie.Need-european-or-old-requires
-european-or-old-requires c κs = search needs
+european-or-before-annex-requires : tie.Need-european-or-before-annex-requires
+european-or-before-annex-requires c κs = search needs
 
-european-or-old-requires-2 : tie.Need-european-or-old-requires-2
-european-or-old-requires-2 c κs = search needs
+european-or-before-annex-requires-2 : tie.Need-european-or-before-annex-requires-2
+european-or-before-annex-requires-2 c κs = search needs
 
 returns : tie.Need-returns
-returns c = rw (c .before .before .before .before .before .is-written .ensures, c .before .before .before .before .is-held .ensures, c .before .before .before .european-or-old .ensures, c .before .before .european-or-old2 .ensures)
+returns c = rw (c .before .before .before .before .before .is-written .ensures, c .before .before .before .before .is-held .ensures, c .before .before .before .european-or-before-annex .ensures, c .before .before .european-or-before-annex2 .ensures)
 
 pub may-meet-spec : {M : Type 1} → statement M
 may-meet-spec =
@@ -23,6 +23,6 @@ may-meet-spec =
     (tie.spec
     is-written-requires
     is-held-requires
-    european-or-old-requires
-    european-or-old-requires-2
+    european-or-before-annex-requires
+    european-or-before-annex-requires-2
     returns)

@@ -1,0 +1,150 @@
+-- Computed values of the file, its refusals and the answers: the third part of the table of `RuleValues`.
+use Prim.Native.Nat.{ℕ}
+use mathlib.Core.Bool.{true, false}
+use mathlib.Core.List.{List, [], _∷_, _++_}
+use mathlib.Core.Path.{_≡_}
+use lib.IntN.{negℤ, pos}
+use Rattle.rules.proofs.CheckOrder.{bytes4, trailerBytes}
+use Rattle.rules.proofs.CheckedValues.{row, series}
+use Rattle.rules.specs.File.{barrierOf, beforeAnnexFlag, europeanFlag, knockedInFlag, limiterFlag, limiterOf, optionOf, positionRowFrom, seriesRowFrom, sideOf, span, u16At, u24At, u32At, u8At}
+use Rattle.rules.specs.Lines.{total}
+use Rattle.rules.specs.OnePosition.{amountAnswer, signedAnswer}
+use Rattle.rules.specs.Output.{marginText, premiumsFor}
+use Rattle.rules.specs.Refusals.{meaning, refused, rows}
+use Rattle.rules.specs.declared.Barrier.the-variants.{NoBarrier, UpIn, DownIn, UpOut, DownOut}
+use Rattle.rules.specs.declared.FileRead.the-variants.{Refused}
+use Rattle.rules.specs.declared.Limiter.the-variants.{NoLimiter, At}
+use Rattle.rules.specs.declared.OptionType.the-variants.{Call, Put}
+use Rattle.rules.specs.declared.Refusal.the-variants.{FileSize}
+use Rattle.rules.specs.declared.Side.the-variants.{Held, Written}
+
+-- The bytes 1 to 32.
+abbrev pub counted : List ℕ
+counted =
+    (1 ∷ 2 ∷ 3 ∷ 4 ∷ 5 ∷ 6 ∷ 7 ∷ 8 ∷ 9 ∷ 10 ∷ 11 ∷ 12 ∷ 13 ∷ 14 ∷ 15 ∷ 16 ∷ [])
+    ++ (17 ∷ 18 ∷ 19 ∷ 20 ∷ 21 ∷ 22 ∷ 23 ∷ 24 ∷ 25 ∷ 26 ∷ 27 ∷ 28 ∷ 29 ∷ 30 ∷ 31 ∷ 32 ∷ [])
+
+-- Little-endian numbers, where each field of a row stands, and what types, sides and kinds mean.
+abbrev pub Fields : Type 0
+Fields =
+    (u8At (7 ∷ []) 1 ≡ 0)
+    × (u16At (1 ∷ 2 ∷ []) 0 ≡ 513)
+    × (u24At (1 ∷ 2 ∷ 3 ∷ []) 0 ≡ 197_121)
+    × (u32At (1 ∷ 2 ∷ 3 ∷ 4 ∷ []) 0 ≡ 67_305_985)
+    × (seriesRowFrom counted 0
+    ≡ record {
+      pv = 67_305_985;
+      fa = 134_678_021;
+      fb = 202_050_057;
+      f3 = 269_422_093;
+      m = 336_794_129;
+      option = 21;
+      spare = 1_578_774;
+    })
+    × (positionRowFrom counted 0
+    ≡ record {
+      series = 513;
+      side = 3;
+      kind = 4;
+      flags = 5;
+      spare = 526_086;
+      q = 202_050_057;
+      pe = 269_422_093;
+      pb = 336_794_129;
+      price = 404_166_165;
+      reb = 471_538_201;
+      premium = 538_910_237;
+    })
+    × (optionOf 0 ≡ Call)
+    × (optionOf 1 ≡ Put)
+    × (sideOf 0 ≡ Held)
+    × (sideOf 1 ≡ Written)
+    × (barrierOf 0 7 ≡ NoBarrier)
+    × (barrierOf 1 7 ≡ UpIn 7)
+    × (barrierOf 2 7 ≡ DownIn 7)
+    × (barrierOf 3 7 ≡ UpOut 7)
+    × (barrierOf 4 7 ≡ DownOut 7)
+
+-- Each flag is one bit, whatever the others are.
+abbrev pub Flags : Type 0
+Flags =
+    (knockedInFlag 1 ≡ true)
+    × (knockedInFlag 4 ≡ false)
+    × (limiterFlag 2 ≡ true)
+    × (limiterFlag 8 ≡ false)
+    × (europeanFlag 12 ≡ true)
+    × (europeanFlag 8 ≡ false)
+    × (beforeAnnexFlag 24 ≡ true)
+    × (beforeAnnexFlag 8 ≡ true)
+    × (beforeAnnexFlag 4 ≡ false)
+    × (limiterOf 2 7 ≡ At 7)
+    × (limiterOf 13 7 ≡ NoLimiter)
+
+-- A position row: series, side, kind, flags; Q, PE, PB, barrier price, REB, premium.
+abbrev pub rowBytes : ℕ → ℕ → ℕ → ℕ → ℕ → ℕ → ℕ → ℕ → ℕ → ℕ → List ℕ
+rowBytes number side kind flags q pe pb price reb premium =
+    (number ∷ 0 ∷ side ∷ kind ∷ flags ∷ 0 ∷ 0 ∷ 0 ∷ [])
+    ++ bytes4 q
+    ++ bytes4 pe
+    ++ bytes4 pb
+    ++ bytes4 price
+    ++ bytes4 reb
+    ++ bytes4 premium
+
+-- A series row of the PV and type given.
+abbrev pub typedBytes : ℕ → ℕ → List ℕ
+typedBytes pv option =
+    bytes4 pv ++ bytes4 1_200_000 ++ bytes4 800_000 ++ bytes4 50_000 ++ bytes4 5 ++ (option ∷ 0 ∷ 0 ∷ 0 ∷ [])
+
+-- A call series and a put series with two position rows, of which the first is in order.
+abbrev pub twoRows : List ℕ → List ℕ
+twoRows second =
+    typedBytes 3000 0 ++ typedBytes 3000 1 ++ rowBytes 0 1 0 4 10 3100 0 0 0 0 ++ second ++ trailerBytes 2 2 (span 2 2) 0
+
+-- Every refusal of a file by its number and row.
+abbrev pub Numbers : Type 0
+Numbers =
+    (meaning [] ≡ refused 1 0)
+    × (meaning (trailerBytes 33 1 836 0) ≡ refused 2 0)
+    × (meaning (typedBytes 3000 0 ++ trailerBytes 1 0 (span 1 0) 0) ≡ refused 3 0)
+    × (meaning (typedBytes 3000 0 ++ trailerBytes 1 1 (span 1 1) 0) ≡ refused 4 0)
+    × (meaning (typedBytes 3000 0 ++ typedBytes 0 0 ++ rowBytes 0 1 0 4 10 3100 0 0 0 0 ++ trailerBytes 2 1 (span 2 1) 0) ≡ refused 5 1)
+    × (meaning (typedBytes 3000 0 ++ typedBytes 3000 2 ++ rowBytes 0 1 0 4 10 3100 0 0 0 0 ++ trailerBytes 2 1 (span 2 1) 0) ≡ refused 6 1)
+    × (meaning (twoRows (rowBytes 2 1 0 4 10 3100 0 0 0 0)) ≡ refused 7 1)
+    × (meaning (twoRows (rowBytes 0 1 0 4 10 3100 0 0 0 1)) ≡ refused 8 1)
+    × (meaning (twoRows (rowBytes 1 1 0 6 10 2900 2900 0 0 0)) ≡ refused 9 1)
+    × (meaning (twoRows (rowBytes 0 1 0 4 10 3100 0 0 1 0)) ≡ refused 10 1)
+    × (meaning (twoRows (rowBytes 1 1 4 4 10 2900 0 3000 0 0)) ≡ refused 11 1)
+
+-- An account of two series: calls written (opened before the annex) and held, puts written (both flags) and held.
+abbrev pub mixed : List ℕ
+mixed =
+    typedBytes 3000 0
+    ++ typedBytes 3000 1
+    ++ rowBytes 0 1 0 8 2 3100 0 0 0 0
+    ++ rowBytes 1 0 0 4 3 2700 0 0 0 7
+    ++ rowBytes 1 1 0 12 3 2900 0 0 0 0
+    ++ rowBytes 0 0 0 4 5 3250 0 0 0 11
+    ++ trailerBytes 2 4 (span 2 4) 0
+
+-- What the operations answer, as numbers and as text.
+abbrev pub Answers : Type 0
+Answers =
+    -- pair 0 3 2 1500, pair 2 1 3 3000, left 3 3 0, premium 380, total 4880
+    (marginText mixed
+    ≡
+    (112 ∷ 97 ∷ 105 ∷ 114 ∷ 32 ∷ 48 ∷ 32 ∷ 51 ∷ 32 ∷ 50 ∷ 32 ∷ 49 ∷ 53 ∷ 48 ∷ 48 ∷ 10 ∷ [])
+    ++ (112 ∷ 97 ∷ 105 ∷ 114 ∷ 32 ∷ 50 ∷ 32 ∷ 49 ∷ 32 ∷ 51 ∷ 32 ∷ 51 ∷ 48 ∷ 48 ∷ 48 ∷ 10 ∷ [])
+    ++ (108 ∷ 101 ∷ 102 ∷ 116 ∷ 32 ∷ 51 ∷ 32 ∷ 51 ∷ 32 ∷ 48 ∷ 10 ∷ [])
+    ++ (112 ∷ 114 ∷ 101 ∷ 109 ∷ 105 ∷ 117 ∷ 109 ∷ 32 ∷ 51 ∷ 56 ∷ 48 ∷ 10 ∷ [])
+    ++ (116 ∷ 111 ∷ 116 ∷ 97 ∷ 108 ∷ 32 ∷ 52 ∷ 56 ∷ 56 ∷ 48 ∷ 10 ∷ []))
+    -- refused 8 1
+    × (marginText (twoRows (rowBytes 0 1 0 4 10 3100 0 0 0 1))
+    ≡
+    (114 ∷ 101 ∷ 102 ∷ 117 ∷ 115 ∷ 101 ∷ 100 ∷ 32 ∷ 56 ∷ 32 ∷ 49 ∷ 10 ∷ []))
+    × (premiumsFor [] (Refused FileSize 0) ≡ 0)
+    -- One position: a written row's amount for all its contracts, a held row's premium; minus 13, minus 8
+    × (signedAnswer (amountAnswer mixed 2) ≡ pos 7_500)
+    × (signedAnswer (amountAnswer mixed 3) ≡ pos 275)
+    × (signedAnswer (amountAnswer mixed 4) ≡ negℤ (pos 13))
+    × (signedAnswer (amountAnswer (twoRows (rowBytes 0 1 0 4 10 3100 0 0 0 1)) 0) ≡ negℤ (pos 8))
