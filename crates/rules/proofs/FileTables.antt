@@ -8,6 +8,7 @@ use Rattle.rules.proofs.CheckOrder.{bytes4, trailerBytes}
 use Rattle.rules.proofs.CheckedValues.{row, series}
 use Rattle.rules.specs.File.{barrierOf, beforeAnnexFlag, europeanFlag, knockedInFlag, limiterFlag, limiterOf, optionOf, positionRowFrom, seriesRowFrom, sideOf, span, u16At, u24At, u32At, u8At}
 use Rattle.rules.specs.Lines.{total}
+use Rattle.rules.specs.Lines.{marginAnswer}
 use Rattle.rules.specs.OnePosition.{amountAnswer, signedAnswer}
 use Rattle.rules.specs.Output.{marginText, premiumsFor}
 use Rattle.rules.specs.Refusals.{meaning, refused, rows}
@@ -15,7 +16,8 @@ use Rattle.rules.specs.declared.Barrier.the-variants.{NoBarrier, UpIn, D
 use Rattle.rules.specs.declared.FileRead.the-variants.{Refused}
 use Rattle.rules.specs.declared.Limiter.the-variants.{NoLimiter, At}
 use Rattle.rules.specs.declared.OptionType.the-variants.{Call, Put}
-use Rattle.rules.specs.declared.Refusal.the-variants.{FileSize}
+use Rattle.rules.specs.declared.MarginAnswer.the-variants.{NoTotal, Total}
+use Rattle.rules.specs.declared.Refusal.the-variants.{FileSize, ListTooShort}
 use Rattle.rules.specs.declared.Side.the-variants.{Held, Written}
 
 -- The bytes 1 to 32.
@@ -143,6 +145,9 @@ Answers =
     ≡
     (114 ∷ 101 ∷ 102 ∷ 117 ∷ 115 ∷ 101 ∷ 100 ∷ 32 ∷ 56 ∷ 32 ∷ 49 ∷ 10 ∷ []))
     × (premiumsFor [] (Refused FileSize 0) ≡ 0)
+    -- A list of p entries is long enough, one of p - 1 is not
+    × (marginAnswer mixed 4 ≡ Total 3 4_880)
+    × (marginAnswer mixed 3 ≡ NoTotal ListTooShort 0)
     -- One position: a written row's amount for all its contracts, a held row's premium; minus 13, minus 8
     × (signedAnswer (amountAnswer mixed 2) ≡ pos 7_500)
     × (signedAnswer (amountAnswer mixed 3) ≡ pos 275)
