@@ -64,8 +64,8 @@ pub struct Series {
     pub option: OptionType,
 }
 
-// What a position row means. The four flags stand in `knocked`, `limiter`, `european` and `old` (opened before the
-// annex).
+// What a position row means. The four flags stand in `knockedIn` (1), `limiter` (2), `european` (4) and `beforeAnnex`
+// (8, opened before the annex).
 pub struct Position {
     pub series: u32,
     pub side: Side,
@@ -142,8 +142,8 @@ pub enum Choice {
     NoPair,
 }
 
-// An entry of the caller's list: 1 for a pair or 2 for a row left, then that line's fields in document 01's order. A C
-// program lends it as a struct of five 64-bit numbers.
+// An entry of the caller's list, document 01's five whole numbers: 1 for a pair or 2 for a row left, then that line's
+// fields in order. A C program lends it as a struct of five 64-bit numbers.
 #[repr(C)]
 pub struct Line {
     pub kind: u64,
