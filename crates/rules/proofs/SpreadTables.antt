@@ -33,6 +33,8 @@ SameRowSpreads =
     (unitSpread (series Call) (row Held 3100 (At 3300) (UpIn 3700) 40) (row Written 3100 (At 3300) (UpIn 3700) 40) ≡ Margin 0)
     × (unitSpread (series Put) (row Held 2900 (At 0) (DownOut 2400) 40) (row Written 2900 (At 0) (DownOut 2400) 40) ≡ Margin 0)
     × (unitSpread (series Call) (knockedInRow Held 3100 (UpIn 3700) 40) (knockedInRow Written 3100 (DownIn 2300) 25) ≡ Margin 0)
+    × (spread Call 3100 (UpIn 3700) 40 3100 (UpIn 3700) 40 ≡ Margin 0)
+    × (spread Put 2900 (DownIn 2300) 0 2900 (DownIn 2300) 0 ≡ Margin 0)
     -- "Otherwise a limiter on either row bars the pair", also a limiter at 0
     × (unitSpread (series Call) (row Held 3100 (At 3300) NoBarrier 0) (row Written 3100 NoLimiter NoBarrier 0) ≡ Barred)
     × (unitSpread (series Call) (row Held 3100 NoLimiter NoBarrier 0) (row Written 3100 (At 3300) NoBarrier 0) ≡ Barred)
