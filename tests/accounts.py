@@ -1,23 +1,32 @@
-"""Account files built number by number, for the scripts beside this one."""
+"""Account files by short names of their fields, for the scripts beside this one. tools/account_layout.py packs them."""
 import os
-import struct
 
-TOP = os.path.dirname(os.path.dirname(os.path.abspath(__file__)))
+from top import path
+
+import account_layout as layout
+
+FLAGS = [field for field in layout.POSITION.fields if field.offset == 4]
+
+
+def number(data):
+    return int.from_bytes(bytes(data), 'little')
 
 
 def series(pv=3000, fa=1_200_000, fb=800_000, f3=50_000, m=5, option=0, spare=(0, 0, 0)):
-    return struct.pack('<5IB3B', pv, fa, fb, f3, m, option, *spare)
+    return {'PV': pv, 'fa': fa, 'fb': fb, 'f3': f3, 'M': m, 'type': option, 'spare': number(spare)}
 
 
 def position(series=0, side=1, kind=0, flags=4, spare=(0, 0, 0), q=10, pe=3100, pb=0, price=0, reb=0, premium=0):
-    return struct.pack('<HBBB3B6I', series, side, kind, flags, *spare, q, pe, pb, price, reb, premium)
+    return {'series': series, 'side': side, 'kind': kind, **{flag.name: flags & flag.bits for flag in FLAGS},
+            'spare': number(spare), 'Q': q, 'PE': pe, 'PB': pb, 'barrier-price': price, 'REB': reb, 'premium': premium}
 
 
-def account(rows, positions, s=None, p=None, distance=None, tail=b'\0\0\0\0', cover=b''):
+def account(rows, positions, s=None, p=None, distance=None, tail=(0, 0, 0, 0), cover=b''):
+    """The file's bytes. What the trailer says can be given; the distance is that of the counts it says."""
     s = len(rows) if s is None else s
     p = len(positions) if p is None else p
-    distance = 12 + 24 * s + 32 * p if distance is None else distance
-    return cover + b''.join(rows) + b''.join(positions) + struct.pack('<HHI', s, p, distance) + tail
+    distance = layout.distance(s, p) if distance is None else distance
+    return layout.file_of(layout.Account(cover, rows, positions), (s, p, distance, number(tail)))
 
 
 def one(**fields):
@@ -36,13 +45,8 @@ EXAMPLE = account(CALL, [position(), position(side=0, q=4, pe=3250), position(si
                   cover=b'Serpentgleam example account\n')
 
 
-def framed(files):
-    """Files one after the other, each as its length in four little-endian bytes and then its bytes."""
-    return b''.join(struct.pack('<I', len(f)) + f for f in files)
-
-
-def write(path, data):
-    path = os.path.join(TOP, path)
-    os.makedirs(os.path.dirname(path), exist_ok=True)
-    with open(path, 'wb') as out:
+def write(name, data):
+    """Writes a file of the repository."""
+    os.makedirs(os.path.dirname(path(name)), exist_ok=True)
+    with open(path(name), 'wb') as out:
         out.write(data)

@@ -4,7 +4,9 @@
 The amounts are those of document 01, Checked values, starred or not: a unit margin in ticks times M 5 and Q 10. Run it
 from anywhere; `git status` shows no difference where nothing changed.
 """
-from accounts import CALL, EXAMPLE, PUT, account, framed, last, one, position, series, write
+from accounts import CALL, EXAMPLE, PUT, account, last, position, series, write
+
+from account_batch import framed
 
 CHECKED_CALLS = [
     (dict(), 500),

@@ -4,13 +4,18 @@
 Each case is an account file and the answer that document 01 gives it, stated by hand beside it. Run it from anywhere;
 `git status` shows no difference where nothing changed.
 """
-from accounts import CALL, EXAMPLE, PUT, account, framed, last, one, position, series, write
+from accounts import CALL, EXAMPLE, PUT, account, last, one, position, series, write
+
+from account_batch import framed
+from account_layout import POSITION, SERIES, pack
+
+ROWS_ON_THE_COVER = pack(SERIES, series()) + pack(POSITION, position(kind=9))
 
 CASES = [
     # accepted
     (EXAMPLE, 'accepted 1 3'),
     (one(), 'accepted 1 1'),
-    (account(CALL, [position()], cover=series() + position(kind=9)), 'accepted 1 1'),
+    (account(CALL, [position()], cover=ROWS_ON_THE_COVER), 'accepted 1 1'),
     (account([series()] * 32, [position(series=31)] * 256), 'accepted 32 256'),
     (account([series()] * 32, [position(series=i % 32) for i in range(256)], cover=b'\xff' * 56_564), 'accepted 32 256'),
     (account([series(10_000_000, 10_000_000, 10_000_000, 1_000_000, 1000)], [position(q=100_000, pe=10_000_000)]), 'accepted 1 1'),
@@ -30,8 +35,8 @@ CASES = [
     (account([], [position()]), 'refused 2 0'),
     (account([series()] * 33, [position()]), 'refused 2 0'),
     (account(CALL, [position()] * 257), 'refused 2 0'),
-    (account(CALL, [position()], tail=b'\0\0\0\1'), 'refused 2 0'),
-    (account(CALL, [position()], tail=b'\1\0\0\0'), 'refused 2 0'),
+    (account(CALL, [position()], tail=(0, 0, 0, 1)), 'refused 2 0'),
+    (account(CALL, [position()], tail=(1, 0, 0, 0)), 'refused 2 0'),
     (account([], [], distance=12), 'refused 2 0'),
     # 3: no positions
     (account(CALL, []), 'refused 3 0'),

@@ -96,11 +96,12 @@ def distance(series_count, position_count):
     return TRAILER.size + SERIES.size * series_count + POSITION.size * position_count
 
 
-def file_of(account):
+def file_of(account, trailer=None):
+    """The file's bytes. The values of the trailer's fields can be given; otherwise they are in order."""
     counts = len(account.series), len(account.positions)
-    trailer = dict(zip((field.name for field in TRAILER.fields), (*counts, distance(*counts), 0)))
+    values = (*counts, distance(*counts), 0) if trailer is None else trailer
     rows = [pack(SERIES, row) for row in account.series] + [pack(POSITION, row) for row in account.positions]
-    return account.cover + b''.join(rows) + pack(TRAILER, trailer)
+    return account.cover + b''.join(rows) + pack(TRAILER, dict(zip((field.name for field in TRAILER.fields), values)))
 
 
 def trailer_of(data):

@@ -9,6 +9,8 @@ import os
 import subprocess
 import sys
 
+from account_batch import answers_of, framed
+
 BUILT = os.path.join(os.path.dirname(os.path.dirname(os.path.abspath(__file__))), 'target', 'bin', 'margin_batch')
 
 
@@ -26,9 +28,8 @@ def read_files(paths):
 
 def answers(program, accounts):
     """The answer of each account, as the program prints it."""
-    framed = b''.join(len(account).to_bytes(4, 'little') + account for account in accounts)
-    run = subprocess.run([program], input=framed, capture_output=True, check=True)
-    return run.stdout.decode().split('\n\n')[:-1]
+    run = subprocess.run([program], input=framed(accounts), capture_output=True, check=True)
+    return answers_of(run.stdout)
 
 
 def main(paths):

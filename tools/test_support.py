@@ -3,9 +3,9 @@ import contextlib
 import glob
 import io
 import os
-import struct
 from unittest import mock
 
+from account_batch import vectors
 from account_faults import trailer_fault
 from account_layout import account_of
 from account_text import file_from_text, main
@@ -18,23 +18,6 @@ SERIES_TEXT = 'series call PV=3000 fa=1.2 fb=0.8 f3=0.05 M=5\n'
 def bytes_of(*path):
     with open(os.path.join(TOP, *path), 'rb') as source:
         return source.read()
-
-
-def framed_files(data):
-    """The files in data, each after its length in four little-endian bytes."""
-    files, at = [], 0
-    while at < len(data):
-        length, = struct.unpack_from('<I', data, at)
-        files.append(data[at + 4:at + 4 + length])
-        at += 4 + length
-    return files
-
-
-def vectors():
-    """The accounts of the reference, each with the reference's answer."""
-    files = framed_files(bytes_of('reference', 'vectors', 'vectors.stdin'))
-    answers = bytes_of('reference', 'vectors', 'vectors.stdout').decode().split('\n\n')
-    return [(data, answer.strip()) for data, answer in zip(files, answers)]
 
 
 VECTORS = vectors()

@@ -1,0 +1,10 @@
+"""Where the repository stands. The tools are then on the path of the scripts beside this one."""
+import os
+import sys
+
+TOP = os.path.dirname(os.path.dirname(os.path.abspath(__file__)))
+sys.path.insert(0, os.path.join(TOP, 'tools'))
+
+
+def path(*parts):
+    return os.path.join(TOP, *parts)
