@@ -5,61 +5,72 @@ For each file: the reading (accepted, or refusal and row), and the amounts of up
 there. Needs cargo, and target/bin/read_accounts and target/bin/position_amounts (`rt check`). Prints how many of each
 it compared, and every difference; exit status 1 where there is one.
 """
-import os
 import random
-import struct
 import subprocess
 import sys
 
-TOP = os.path.dirname(os.path.dirname(os.path.abspath(__file__)))
-REFERENCE = os.path.join(TOP, 'reference')
+from top import TOP, path
+
+from account_batch import vector_bytes, vectors
+
+CARGO = path('target', 'cargo')
 
 
-def path(*parts):
-    return os.path.join(TOP, *parts)
+def lines_of(program):
+    """What a proved program prints for the vectors."""
+    run = subprocess.run([path('target', 'bin', program)], input=vector_bytes('stdin'), capture_output=True, check=True)
+    return run.stdout.decode().splitlines()
 
 
-def files_of(data):
-    at = 0
-    while at < len(data):
-        length = struct.unpack_from('<I', data, at)[0]
-        yield data[at + 4:at + 4 + length]
-        at += 4 + length
+def build_reference():
+    command = ['cargo', 'build', '--release', '--quiet', '--bin', 'one_position', '--target-dir', CARGO]
+    subprocess.run(command, cwd=TOP, check=True)
+    return f'{CARGO}/release/one_position'
 
 
-def output(program, data):
-    return subprocess.run([path('target', 'bin', program)], input=data, capture_output=True, check=True).stdout.decode()
-
-
-BUILT = path('reference', 'target')
-subprocess.run(['cargo', 'build', '--release', '--quiet', '--target-dir', BUILT], cwd=REFERENCE, check=True)
-one_position = os.path.join(BUILT, 'release', 'one_position')
-with open(path('reference', 'vectors', 'vectors.stdin'), 'rb') as vectors:
-    data = vectors.read()
-with open(path('reference', 'vectors', 'vectors.stdout')) as vectors:
-    expected = [answer for answer in vectors.read().split('\n\n') if answer]
-files = list(files_of(data))
-readings = output('read_accounts', data).splitlines()
-amounts = iter(output('position_amounts', data).splitlines())
-chance, differences, rows_compared = random.Random(1), 0, 0
-
-for number, (file, answer, reading) in enumerate(zip(files, expected, readings, strict=True)):
+def same_reading(answer, reading):
     first = answer.splitlines()[0]
-    same = first == reading if first.startswith('refused') else reading.startswith('accepted')
-    if not same:
-        differences += 1
-        print(f'file {number}: reference {first}, program {reading}')
-    lines = []
-    while not lines or not lines[-1].startswith('refused'):
-        lines.append(next(amounts))
-    for row in sorted(chance.sample(range(len(lines)), min(4, len(lines))) + [len(lines)]):
-        words = lines[min(row, len(lines) - 1)].split()
-        told = words[2] if words[0] == 'amount' else '-' + words[1]
-        wanted = subprocess.run([one_position, str(row)], input=file, capture_output=True).stdout.decode().strip()
-        rows_compared += 1
-        if told != wanted:
-            differences += 1
-            print(f'file {number}, row {row}: reference {wanted}, program {told}')
+    return first == reading if first.startswith('refused') else reading.startswith('accepted')
 
-print(f'{len(files)} files, {rows_compared} amounts, {differences} differences')
-sys.exit(1 if differences else 0)
+
+def amounts_of(lines):
+    """Of each file the lines of position_amounts, up to the refusal that ends them."""
+    amounts = []
+    for line in lines:
+        amounts.append(line)
+        if line.startswith('refused'):
+            yield amounts
+            amounts = []
+
+
+def told(amounts, row):
+    """What position_amounts says of a row: its amount, or minus the refusal's number."""
+    words = amounts[min(row, len(amounts) - 1)].split()
+    return words[2] if words[0] == 'amount' else '-' + words[1]
+
+
+def rows_to_ask(chance, amounts):
+    count = len(amounts)
+    return sorted(chance.sample(range(count), min(4, count)) + [count])
+
+
+def main():
+    one_position, chance, differences, compared = build_reference(), random.Random(1), 0, 0
+    answers = zip(vectors(), lines_of('read_accounts'), amounts_of(lines_of('position_amounts')), strict=True)
+    for number, ((file, answer), reading, amounts) in enumerate(answers):
+        if not same_reading(answer, reading):
+            differences += 1
+            print(f'file {number}: reference {answer.splitlines()[0]}, program {reading}')
+        for row in rows_to_ask(chance, amounts):
+            run = subprocess.run([one_position, str(row)], input=file, capture_output=True, check=True)
+            expected, found = run.stdout.decode().strip(), told(amounts, row)
+            compared += 1
+            if found != expected:
+                differences += 1
+                print(f'file {number}, row {row}: reference {expected}, program {found}')
+    print(f'{number + 1} files, {compared} amounts, {differences} differences')
+    return 1 if differences else 0
+
+
+if __name__ == '__main__':
+    sys.exit(main())

@@ -1,13 +1,12 @@
 #!/usr/bin/env bash
-# Makes the reference's vectors again and compares them, byte for byte, with those that stand in reference/vectors and
-# in crates/margin_batch. Needs cargo. Exit status 1 where there is a difference.
+# Makes the reference's vectors again and compares them, byte for byte, with those that stand in crates/margin_batch.
+# Needs cargo. Exit status 1 where there is a difference.
 set -eu
 cd "$(dirname "$0")/.."
 made=$(mktemp -d)
 trap 'rm -r "$made"' EXIT
-cargo run --release --quiet --manifest-path reference/Cargo.toml --bin make_vectors -- "$made" > "$made/report"
+cargo run --release --quiet --bin make_vectors -- "$made" > "$made/report"
 for part in stdin stdout; do
-    cmp "$made/vectors.$part" "reference/vectors/vectors.$part"
-    cmp "$made/vectors.$part" "crates/margin_batch/$part"
+    cmp "$made/$part" "crates/margin_batch/$part"
 done
 echo "vectors: $(sed -n 's/ accounts, .*//p' "$made/report") accounts, no difference"

@@ -1,11 +1,11 @@
 """Misreadings of the account file's fields; the form of a table is told in misreadings.py."""
-READER = 'reader.rs'
+READER, ROW = 'reader.rs', 'position_row.rs'
 SERIES_LOOP = 'series.push(read_series(row_bytes).map_err(|number| Refusal { number, row })?);'
 POSITION_LOOP = '.push(read_position(row_bytes, &series).map_err(|number| Refusal { number, row })?);'
 FLAG = 'pub const FLAG_%s: u8 = %d;'
 READ = 'Ok(Account { series, positions })'
 FLAGS_OF_NEXT_ROW = '''for row in 1..positions.len() {
-    let next: Position = positions[row];
+    let next = positions[row];
     positions[row - 1].european = next.european;
     positions[row - 1].opened_before_annex = next.opened_before_annex;
 }
@@ -13,8 +13,7 @@ FLAGS_OF_NEXT_ROW = '''for row in 1..positions.len() {
 
 
 def flags_mixed_up(name, bit, other, other_bit):
-    return [(READER, FLAG % (name, bit), FLAG % (name, other_bit)),
-            (READER, FLAG % (other, other_bit), FLAG % (other, bit))]
+    return [(ROW, FLAG % (name, bit), FLAG % (name, other_bit)), (ROW, FLAG % (other, other_bit), FLAG % (other, bit))]
 
 
 TABLE = [
@@ -33,28 +32,26 @@ TABLE = [
     ('32 series', 's = 32 refused', [(READER, 's > 32', 's > 31')]),
     ('fb at most one', 'fb above 1,000,000 refused', [(READER, 'within(0, fb, fa)', 'within(0, fb, 1_000_000)')]),
     ('premium of a written row', 'a premium allowed on a written row', [
-        (READER, 'Side::Written => 0,', 'Side::Written => HIGHEST_PRICE,')]),
+        (ROW, 'if self.side == 1 { 0 } else { HIGHEST_PRICE }', 'HIGHEST_PRICE')]),
     ('PB at PE', 'a limiter equal to the strike allowed', [
-        (READER, 'strike < limiter_price && limiter_price <= HIGHEST_PRICE',
-         'strike <= limiter_price && limiter_price <= HIGHEST_PRICE'),
-        (READER, 'limiter_price < strike', 'limiter_price <= strike')]),
+        (ROW, 'strike < price', 'strike <= price'), (ROW, 'price < strike', 'price <= strike')]),
     ('barrier at PV', 'a barrier equal to PV allowed', [
-        (READER, 'barrier_price > series.pv', 'barrier_price >= series.pv'),
-        (READER, 'barrier_price < series.pv', 'barrier_price <= series.pv')]),
+        (ROW, 'barrier_price > series.pv', 'barrier_price >= series.pv'),
+        (ROW, 'barrier_price < series.pv', 'barrier_price <= series.pv')]),
     ('flag 1 frees the range', 'the range of the barrier price free where flag 1 is set', [
-        (READER, 'within(1, barrier_price, HIGHEST_PRICE)',
-         '(already_knocked_in || within(1, barrier_price, HIGHEST_PRICE))')]),
+        (ROW, 'within(1, self.barrier_price, HIGHEST_PRICE)',
+         'self.already_knocked_in() || within(1, self.barrier_price, HIGHEST_PRICE)')]),
     ('flag 1 frees nothing', 'the side of PV asked where flag 1 is set', [
-        (READER, 'if !side_right && !already_knocked_in', 'if !side_right')]),
+        (ROW, 'side_right || self.already_knocked_in()', 'side_right')]),
     ('flag 1 with any kind', 'flag 1 allowed with kinds 0, 3 and 4', [
-        (READER, 'if already_knocked_in && kind != 1 && kind != 2', 'if already_knocked_in && kind > 4')]),
+        (ROW, 'may_be_knocked_in = self.kind == 1 || self.kind == 2;', 'may_be_knocked_in = true;')]),
     ('limiter at 0', 'a put with a limiter at 0 taken as one without limiter', [
-        (READER, 'let limiter = if has_limiter {', 'let limiter = if has_limiter && limiter_price > 0 {')]),
+        (ROW, 'if self.flag(FLAG_LIMITER) {', 'if self.flag(FLAG_LIMITER) && self.limiter_price > 0 {')]),
     ('flags 1 and 2', 'flag 1 taken as the limiter, flag 2 as already knocked in',
      flags_mixed_up('KNOCKED_IN', 1, 'LIMITER', 2)),
     ('flags 2 and 4', 'flag 2 taken as European, flag 4 as the limiter', flags_mixed_up('LIMITER', 2, 'EUROPEAN', 4)),
     ('flags 1 and 4', 'flag 1 taken as European, flag 4 as already knocked in',
      flags_mixed_up('KNOCKED_IN', 1, 'EUROPEAN', 4)),
     ('flags of the next row', 'flags 4 and 8 taken from the row after', [(READER, READ, FLAGS_OF_NEXT_ROW + READ)]),
-    ('other flags', 'the four bits without a meaning not looked at', [(READER, ' || other_bits != 0', '')]),
+    ('other flags', 'the four bits without a meaning not looked at', [(ROW, '            && self.flags & !known == 0\n', '')]),
 ]

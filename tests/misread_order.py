@@ -1,6 +1,6 @@
 """Misreadings of the order of refusals; the form of a table is told in misreadings.py."""
-READER = 'reader.rs'
-TRAILER_2 = '''    if s < 1 || s > 32 || p > 256 || last_four != [0, 0, 0, 0] {
+READER, ROW = 'reader.rs', 'position_row.rs'
+TRAILER_2 = '''    if s == 0 || s > 32 || p > 256 || last_four != [0, 0, 0, 0] {
         return Err(2);
     }
 '''
@@ -25,34 +25,15 @@ SERIES_6 = '''    if spare != [0, 0, 0] {
         _ => return Err(6),
     };
 '''
-COMMENT_7 = '    // 7: series, side, kind, flags or a spare byte wrong.\n'
-COMMENT_8 = '    // 8: Q, PE, REB or premium wrong.\n'
-COMMENT_9 = '    // 9: PB wrong.\n'
-COMMENT_10 = '    // 10: barrier price outside its rule or range, or REB with kind 0. Flag 1\n'
-CHECK_8 = '''    let most = if side_byte == 1 { 0 } else { HIGHEST_PRICE };
-    if !(within(1, quantity, 100_000) && within(1, strike, HIGHEST_PRICE)
-        && within(0, rebate, HIGHEST_PRICE) && within(0, premium, most)) {
-        return Err(8);
+CHECK = '''    if !fields.%s {
+        return Err(%d);
     }
 '''
-CHECK_9 = '''    if !match (has_limiter, series.option_type) {
-        (false, _) => limiter_price == 0,
-        (true, OptionType::Call) => strike < limiter_price && limiter_price <= HIGHEST_PRICE,
-        (true, OptionType::Put) => limiter_price < strike,
-    } {
-        return Err(9);
-    }
-'''
-CHECK_10 = '''    if kind == 0 && (barrier_price != 0 || rebate != 0)
-        || kind != 0 && !within(1, barrier_price, HIGHEST_PRICE) {
-        return Err(10);
-    }
-'''
-CHECK_11 = '''    if !already_knocked_in && ((kind == 1 || kind == 3) && barrier_price <= series.pv
-        || (kind == 2 || kind == 4) && barrier_price >= series.pv) {
-        return Err(11);
-    }
-'''
+CHECK_7 = CHECK % ('codes_right(all_series.len())', 7)
+CHECK_8 = CHECK % ('numbers_right()', 8)
+CHECK_9 = CHECK % ('limiter_right(series)', 9)
+CHECK_10 = CHECK % ('price_right()', 10)
+CHECK_11 = CHECK % ('side_of_pv_right(series)', 11)
 SERIES_LOOP = '''        series.push(read_series(row_bytes).map_err(|number| Refusal { number, row })?);
 '''
 POSITION_LOOP = '''        positions
@@ -69,21 +50,21 @@ LEAST_FAULT = '''    if let Some(&(number, row)) = faults.iter().min() {
         return Err(Refusal { number, row });
     }
 '''
-FAULTS = '    let mut faults: Vec<(i128, usize)> = Vec::new();\n'
+FAULTS = '    let mut faults: Vec<(i64, usize)> = Vec::new();\n'
 KEEP_SERIES_FAULT = '''        series.push(read_series(row_bytes).unwrap_or_else(|number| {
             faults.push((number, row));
             let option_type = if row_bytes[20] == 1 { OptionType::Put } else { OptionType::Call };
             Series { pv: u32_at(row_bytes, 0), fa: 0, fb: 0, f3: 0, m: 0, option_type }
         }));
 '''
-SERIES_START = '    let mut series = Vec::new();\n'
-POSITIONS_START = '    let mut positions = Vec::new();\n'
+SERIES_START = '    let mut series = Vec::with_capacity(series_count);\n'
+POSITIONS_START = '    let mut positions = Vec::with_capacity(position_count);\n'
 READ = '    Ok(Account { series, positions })\n'
 
 
 def earlier(anchor, check):
     """The check made once more before the anchor, so that its refusal comes first."""
-    return [(READER, anchor, check + anchor)]
+    return [(ROW, anchor, check + anchor)]
 
 
 def swapped(first, second):
@@ -96,12 +77,12 @@ TABLE = [
     ('2 after 4', 'the distance before the counts and the last bytes', [
         (READER, TRAILER_4, ''), (READER, TRAILER_2, TRAILER_4 + TRAILER_2)]),
     ('5 after 6', 'type and spare bytes before PV, fa, fb, f3 and M', swapped(SERIES_5, '\n' + SERIES_6)),
-    ('7 after 8', 'Q, PE, REB and premium before series, side, kind and flags', earlier(COMMENT_7, CHECK_8)),
-    ('8 after 9', 'PB before Q, PE, REB and premium', earlier(COMMENT_8, CHECK_9)),
-    ('8 after 10', 'barrier price before Q, PE, REB and premium', earlier(COMMENT_8, CHECK_10)),
-    ('9 after 10', 'barrier price before PB', earlier(COMMENT_9, CHECK_10)),
-    ('9 after 11', 'side of PV before PB', earlier(COMMENT_9, CHECK_11)),
-    ('10 after 11', 'side of PV before the range of the barrier price', earlier(COMMENT_10, CHECK_11)),
+    ('7 after 8', 'Q, PE, REB and premium before series, side, kind and flags', earlier(CHECK_7, CHECK_8)),
+    ('8 after 9', 'PB before Q, PE, REB and premium', earlier(CHECK_8, CHECK_9)),
+    ('8 after 10', 'barrier price before Q, PE, REB and premium', earlier(CHECK_8, CHECK_10)),
+    ('9 after 10', 'barrier price before PB', earlier(CHECK_9, CHECK_10)),
+    ('9 after 11', 'side of PV before PB', earlier(CHECK_9, CHECK_11)),
+    ('10 after 11', 'side of PV before the range of the barrier price', earlier(CHECK_10, CHECK_11)),
     ('positions before series', 'series rows checked after position rows', [
         (READER, SERIES_START, FAULTS + SERIES_START), (READER, SERIES_LOOP, KEEP_SERIES_FAULT),
         (READER, READ, LEAST_FAULT.replace('.min()', '.next()') + READ)]),

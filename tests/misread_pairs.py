@@ -1,5 +1,5 @@
 """Misreadings of the choice of pairs, of lines and total; the form of a table is told in misreadings.py."""
-PAIRING = 'pairing.rs'
+PAIRING, LINES_AND_TOTAL = 'pairing.rs', 'lines.rs'
 ROWS = '0..account.positions.len()'
 LOOP_WRITTEN, LOOP_HELD = f'for written in {ROWS} {{', f'for held in {ROWS} {{'
 LESS = 'Some((least, _, _, _)) => difference < least,'
@@ -7,13 +7,13 @@ LESS_IN_SERIES = '''Some((least, row, _, _)) => {
     (account.positions[written].series, difference) < (account.positions[row].series, least)
 }'''
 DIFFERENCE = '(account.positions[written].strike - account.positions[held].strike).abs()'
-TAKEN = '''        let quantity = contracts_left[written].min(contracts_left[held]);
-        contracts_left[written] -= quantity;
-        contracts_left[held] -= quantity;
+TAKEN = '''    let quantity = contracts_left[written].min(contracts_left[held]);
+    contracts_left[written] -= quantity;
+    contracts_left[held] -= quantity;
 '''
-LARGER_TAKEN = '''        let quantity = contracts_left[written].max(contracts_left[held]);
-        contracts_left[written] = 0;
-        contracts_left[held] = 0;
+LARGER_TAKEN = '''    let quantity = contracts_left[written].max(contracts_left[held]);
+    contracts_left[written] = 0;
+    contracts_left[held] = 0;
 '''
 PREMIUM = '.map(|row| premium_amount(account, row)).sum();'
 PREMIUM_LEFT = '''.map(|row| premium_amount(account, row) / account.positions[row].quantity * contracts_left[row])
@@ -23,6 +23,14 @@ TOTAL = 'let total = pair_amounts + left_amounts + premium;'
 
 def pairing(old, new):
     return [(PAIRING, old, new)]
+
+
+def lines(old, new):
+    return [(LINES_AND_TOTAL, old, new)]
+
+
+def before_total(text):
+    return lines(TOTAL, text + TOTAL)
 
 
 CHOICE = [
@@ -38,16 +46,17 @@ CHOICE = [
     ('larger quantity', 'the pair takes the larger quantity left', pairing(TAKEN, LARGER_TAKEN)),
 ]
 LINES = [
-    ('left rows backwards', 'rows left in falling order', pairing(TOTAL, 'left.reverse();\n' + TOTAL)),
-    ('written rows left first', 'rows left by side, written before held', pairing(
-        TOTAL, 'left.sort_by_key(|l| account.positions[l.row].side == Side::Held);\n' + TOTAL)),
-    ('pairs in row order', 'pairs by written row instead of as made', pairing(
-        TOTAL, 'pairs.sort_by_key(|p| (p.written, p.held));\n' + TOTAL)),
-    ('premium in the line', 'the line of a held row with its premium', pairing(
+    ('left rows backwards', 'rows left in falling order',
+     before_total('let left: Vec<Left> = left.into_iter().rev().collect();\n')),
+    ('written rows left first', 'rows left by side, written before held', before_total(
+        'let mut left = left;\nleft.sort_by_key(|l| account.positions[l.row].side == Side::Held);\n')),
+    ('pairs in row order', 'pairs by written row instead of as made', before_total(
+        'let mut pairs = pairs;\npairs.sort_by_key(|p| (p.written, p.held));\n')),
+    ('premium in the line', 'the line of a held row with its premium', lines(
         'Side::Held => 0,', 'Side::Held => position.premium * series.m * quantity,')),
-    ('premium of paired rows', 'no premium of a held row that stands in a pair', pairing(
+    ('premium of paired rows', 'no premium of a held row that stands in a pair', lines(
         PREMIUM, '.filter(|&row| contracts_left[row] == account.positions[row].quantity)' + PREMIUM)),
-    ('premium of contracts left', 'premium of the contracts left alone', pairing(PREMIUM, PREMIUM_LEFT)),
-    ('total without premiums', 'premiums not in the total', pairing(TOTAL, TOTAL.replace(' + premium', ''))),
+    ('premium of contracts left', 'premium of the contracts left alone', lines(PREMIUM, PREMIUM_LEFT)),
+    ('total without premiums', 'premiums not in the total', lines(TOTAL, TOTAL.replace(' + premium', ''))),
 ]
 TABLE = CHOICE + LINES

@@ -10,7 +10,7 @@ PUT_OUT_DOWN = 'Barrier::DownAndOut(od) if l > fine(od) => max(mm, payoff(l)),'
 PUT_OUT_UP = 'Barrier::UpAndOut(ou) if h < fine(ou) => max(mm, payoff(l)),'
 OUT = [CALL_OUT_DOWN, CALL_OUT_UP, PUT_OUT_DOWN, PUT_OUT_UP]
 EXACT = 'let exact = unit * m * quantity;'
-NO_REMAINDER = 'if whole * MILLION == exact {'
+NO_REMAINDER = 'if whole * million == exact {'
 KNOCKED_IN = 'barrier: Barrier::None, rebate: 0 }'
 
 
@@ -55,10 +55,10 @@ TABLE = [
         (ACCOUNT, 'if self.already_knocked_in {', 'if false {')]),
     ('rounded down', 'the amount rounded down', [(POSITION, 'whole + 1', 'whole')]),
     ('rounded to the nearest', 'the amount rounded to the nearest centavo', [
-        (POSITION, NO_REMAINDER, 'if exact - whole * MILLION < MILLION / 2 {')]),
+        (POSITION, NO_REMAINDER, 'if exact - whole * million < million / 2 {')]),
     ('rounded up always', 'a whole amount raised too', [(POSITION, NO_REMAINDER, 'if exact == 0 {')]),
     ('rounding each contract', 'the amount of one contract rounded, then multiplied', [
-        (POSITION, EXACT, 'let exact = (unit * m + MILLION - 1) / MILLION * MILLION * quantity;')]),
+        (POSITION, EXACT, 'let exact = (unit * m + million - 1) / million * million * quantity;')]),
     ('rounding each tick', 'the unit margin rounded to ticks, then multiplied', [
-        (POSITION, EXACT, 'let exact = (unit + MILLION - 1) / MILLION * MILLION * m * quantity;')]),
+        (POSITION, EXACT, 'let exact = (unit + million - 1) / million * million * m * quantity;')]),
 ]

@@ -22,7 +22,7 @@ OD_ORDER, OU_ORDER = 'if od_held <= od_written', 'if ou_held >= ou_written'
 OD_REACHED, OU_REACHED = 'series.low() <= fine(od_written)', 'series.high() >= fine(ou_written)'
 D_LOWEST = 'let lowest = if reachable { fine(od_written) } else { series.low() };'
 D_HIGHEST = 'let highest = if reachable { fine(ou_written) } else { series.high() };'
-REBATE = 'let r = if same_barrier {'
+REBATE = 'let r = if held.barrier == written.barrier {'
 HELD_REBATE = 'max(0, fine(written.rebate) - fine(held.rebate))'
 
 

@@ -3,8 +3,8 @@
 
 The tables stand in the files misread_*.py beside this one. A misreading there is a name, what is misread, and a list of
 changes: a file below reference/src, a text that stands in it exactly once, and the text put in its place. Each changed
-copy margins the accounts of reference/vectors/vectors.stdin; an account notices where its output is not that of
-vectors.stdout.
+copy margins the reference's vectors (the accounts in crates/margin_batch/stdin); an account notices where its output is
+not that of crates/margin_batch/stdout.
 
 Needs cargo. Prints a table in markdown, then a summary. Exit status 1 where a misreading is noticed by no account.
 """
@@ -18,41 +18,39 @@ import misread_order
 import misread_pairs
 import misread_positions
 import misread_spreads
+from top import path
 
-REFERENCE = os.path.join(os.path.dirname(os.path.dirname(os.path.abspath(__file__))), 'reference')
+from account_batch import answers_of, vector_bytes
+
 PROGRAM = 'margin_reference_batch'
-MODULES = ['account', 'output', 'pairing', 'position', 'reader', 'spread']
+MODULES = ['account', 'lines', 'output', 'pairing', 'position', 'position_row', 'reader', 'spread']
 TABLES = [misread_positions, misread_spreads, misread_pairs, misread_file, misread_order]
 
 
-def reference_bytes(*path):
-    with open(os.path.join(REFERENCE, *path), 'rb') as file:
-        return file.read()
-
-
 def sources():
-    """What the batch program needs of the reference: text by path."""
+    """What the batch program needs of the reference: text by name."""
     texts = {'src/lib.rs': ''.join(f'pub mod {module};\n' for module in MODULES)}
-    paths = ['Cargo.toml', 'Cargo.lock', f'src/bin/{PROGRAM}.rs'] + [f'src/{module}.rs' for module in MODULES]
-    texts.update((path, reference_bytes(path).decode()) for path in paths)
+    for name in ['Cargo.toml', f'src/bin/{PROGRAM}.rs'] + [f'src/{module}.rs' for module in MODULES]:
+        with open(path('reference', name)) as file:
+            texts[name] = file.read()
     return texts
 
 
 def changed(texts, changes):
     texts = dict(texts)
     for file, old, new in changes:
-        path = 'src/' + file
-        if texts[path].count(old) != 1:
+        name = 'src/' + file
+        if texts[name].count(old) != 1:
             raise SystemExit(f'{file}: not exactly once:\n{old}')
-        texts[path] = texts[path].replace(old, new)
+        texts[name] = texts[name].replace(old, new)
     return texts
 
 
 def write(texts, folder):
-    for path, text in texts.items():
-        path = os.path.join(folder, path)
-        os.makedirs(os.path.dirname(path), exist_ok=True)
-        with open(path, 'w') as file:
+    for name, text in texts.items():
+        place = os.path.join(folder, name)
+        os.makedirs(os.path.dirname(place), exist_ok=True)
+        with open(place, 'w') as file:
             file.write(text)
 
 
@@ -68,13 +66,12 @@ def built(folder):
 
 def outputs(program):
     """Each account's output, in the order of the vectors."""
-    vectors = reference_bytes('vectors', 'vectors.stdin')
-    run = subprocess.run([program], input=vectors, capture_output=True, check=True, timeout=300)
-    return run.stdout.decode().split('\n\n')
+    run = subprocess.run([program], input=vector_bytes('stdin'), capture_output=True, check=True, timeout=300)
+    return answers_of(run.stdout)
 
 
 def accounts_that_notice(texts, changes):
-    expected = reference_bytes('vectors', 'vectors.stdout').decode().split('\n\n')
+    expected = answers_of(vector_bytes('stdout'))
     with tempfile.TemporaryDirectory() as folder:
         write(changed(texts, changes), folder)
         found = outputs(built(folder))
@@ -85,7 +82,7 @@ def main():
     misreadings = [misreading for table in TABLES for misreading in table.TABLE]
     texts, counts = sources(), []
     if accounts_that_notice(texts, []) != 0:
-        raise SystemExit('the reference itself does not give vectors.stdout')
+        raise SystemExit('the reference itself does not give the vectors')
     print('| Name | What is misread | Accounts that notice |\n|---|---|---|')
     for name, what, changes in misreadings:
         counts.append(accounts_that_notice(texts, changes))

@@ -37,6 +37,10 @@ pub const CHANGES: [(&str, Change); 14] = [
     ("reading-outside", Change::ReadingOutside),
 ];
 
+/// Places in an entry.
+const KIND: usize = 0;
+const FOURTH: usize = 4;
+
 /// An implementation with one change wherever it applies.
 pub struct Changed<'a> {
     pub of: &'a dyn Implementation,
@@ -55,9 +59,9 @@ impl Implementation for Changed<'_> {
         }
         match self.change {
             Change::EntryAfterLines if margin.refusal == 0 && lines < room => {
-                entries[lines].kind = 0;
+                entries[lines][KIND] = 0;
             }
-            Change::EntryAfterList => entries[room].fourth = 0,
+            Change::EntryAfterList => entries[room][FOURTH] = 0,
             _ => {}
         }
         margin
@@ -78,8 +82,8 @@ fn change_accepted(change: Change, margin: &mut Margin, entries: &mut [Line]) {
     match change {
         Change::Total => margin.total += 1,
         Change::LineCount => margin.lines -= 1,
-        Change::LineAmount if entries[0].kind == 1 => entries[0].fourth += 1,
-        Change::LeftOrder if lines >= 2 && entries[lines - 2].kind == 2 => {
+        Change::LineAmount if entries[0][KIND] == 1 => entries[0][FOURTH] += 1,
+        Change::LeftOrder if lines >= 2 && entries[lines - 2][KIND] == 2 => {
             entries.swap(lines - 2, lines - 1);
         }
         _ => {}
@@ -91,7 +95,7 @@ fn change_refused(change: Change, margin: &mut Margin, entries: &mut [Line], roo
         Change::RefusalNumber if margin.refusal == 9 => margin.refusal = 8,
         Change::RefusalRow if margin.row > 0 => margin.row -= 1,
         Change::ListRefused if margin.refusal == 12 => margin.refusal = 0,
-        Change::ListOnRefusal if room > 0 => entries[0].kind = 1,
+        Change::ListOnRefusal if room > 0 => entries[0][KIND] = 1,
         _ => {}
     }
 }

@@ -33,7 +33,7 @@ pub fn compare_file(
     library: &dyn Implementation,
     lending: &mut Lending,
     summary: &mut Summary,
-) -> Result<(), Difference> {
+) -> Result<(), Box<Difference>> {
     let reading = read_account(&file.bytes);
     let position_count = reading.as_ref().ok().map(|account| account.positions.len());
     let copies = lending.lend(&file.bytes);
@@ -44,10 +44,11 @@ pub fn compare_file(
         let expected = answer(reference, &file.bytes, question);
         let found = answer(library, copy, question);
         if found != expected {
-            return Err(Difference::Answers { question, reference: expected, library: found });
+            let difference = Difference::Answers { question, reference: expected, library: found };
+            return Err(Box::new(difference));
         }
         if copy != file.bytes {
-            return Err(Difference::FileWrittenTo { question });
+            return Err(Box::new(Difference::FileWrittenTo { question }));
         }
         summary.add_answer(&expected, purpose);
     }
@@ -69,7 +70,7 @@ fn answer(implementation: &dyn Implementation, file: &[u8], question: Question) 
 /// What an entry holds before the call: numbers that no line has.
 pub fn content_before(entry: usize) -> Line {
     let mark = 0xA5A5_0000_0000_0000 + 8 * entry as u64;
-    Line { kind: mark, first: mark + 1, second: mark + 2, third: mark + 3, fourth: mark + 4 }
+    [mark, mark + 1, mark + 2, mark + 3, mark + 4]
 }
 
 impl fmt::Display for Difference {

@@ -1,6 +1,6 @@
 //! Structured files with one to four faults.
 
-use reference::draft::Draft;
+use reference::draft::{trailer_for, Draft};
 use reference::random::Random;
 use reference::reader::{distance, POSITION_BYTES, SERIES_BYTES, TRAILER_BYTES};
 
@@ -192,9 +192,7 @@ fn counts_changed(random: &mut Random, file: &mut Damaged) -> bool {
         0 => random.pick(&[0, 256, 257, 65_535]),
         _ => beside(file.positions, random),
     };
-    let trailer = &mut file.bytes[first..];
-    trailer[..2].copy_from_slice(&(series as u16).to_le_bytes());
-    trailer[2..4].copy_from_slice(&(positions as u16).to_le_bytes());
-    trailer[4..8].copy_from_slice(&(distance(series, positions) as u32).to_le_bytes());
+    // The last four bytes stay.
+    file.bytes[first..first + 8].copy_from_slice(&trailer_for(series, positions)[..8]);
     true
 }

@@ -27,13 +27,13 @@ pub struct File {
 }
 
 pub fn file(seed: u64, number: u64) -> File {
-    let mut random = Random::new(Random::new(seed).next() ^ number);
+    let mut random = Random::new(Random::new(seed).draw() ^ number);
     let (family, (kinds, bytes)) = match number % 3 {
         0 => (Family::Random, random_files::random_file(&mut random)),
         1 => (Family::Structured, structured::structured_file(&mut random)),
         _ => (Family::Damaged, damage::damaged_file(&mut random)),
     };
-    File { number, family, kinds, bytes, seed_of_questions: random.next() }
+    File { number, family, kinds, bytes, seed_of_questions: random.draw() }
 }
 
 impl Family {
@@ -49,7 +49,7 @@ impl Family {
 pub fn random_bytes(random: &mut Random, count: usize) -> Vec<u8> {
     let mut bytes = Vec::with_capacity(count + 8);
     while bytes.len() < count {
-        bytes.extend(random.next().to_le_bytes());
+        bytes.extend(random.draw().to_le_bytes());
     }
     bytes.truncate(count);
     bytes

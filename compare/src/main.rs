@@ -2,7 +2,7 @@
 //! until the time is over or so many files are compared, and stops at the first difference.
 
 mod fault;
-mod library;
+mod linked;
 
 use std::process::ExitCode;
 use std::time::{Duration, Instant};
@@ -13,7 +13,7 @@ use compare::files::{file, File};
 use compare::implementation::{Implementation, Reference};
 use compare::lending::Lending;
 use compare::summary::Summary;
-use library::Library;
+use linked::Library;
 
 struct Request {
     seconds: u64,
@@ -62,7 +62,7 @@ fn request_of(words: impl Iterator<Item = String>) -> Option<Request> {
     Some(Request { seconds, seed, files, change })
 }
 
-fn compare_files(request: &Request, start: Instant) -> Result<Summary, (File, Difference)> {
+fn compare_files(request: &Request, start: Instant) -> Result<Summary, (File, Box<Difference>)> {
     let changed;
     let library: &dyn Implementation = match request.change {
         None => &Library,

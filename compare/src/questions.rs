@@ -46,7 +46,7 @@ fn of_accepted(random: &mut Random, p: usize) -> Vec<Purpose> {
     if p <= FEW_ROWS {
         asked.extend((0..=last).map(|row| (Question::Amount { row }, "row")));
     } else {
-        for row in [0, last, random.next() % last, random.next() % last, random.next() % last] {
+        for row in [0, last, random.draw() % last, random.draw() % last, random.draw() % last] {
             asked.push((Question::Amount { row }, "row"));
         }
     }
@@ -58,7 +58,7 @@ fn of_accepted(random: &mut Random, p: usize) -> Vec<Purpose> {
 
 fn of_refused(random: &mut Random) -> Vec<Purpose> {
     let room = if random.chance(3) { 256 } else { random.between(1, 8) as usize };
-    let any = random.next();
+    let any = random.draw();
     let row = random.pick(&[1, 255, any, u64::MAX]);
     vec![
         (Question::Margin { room }, "refused file"),

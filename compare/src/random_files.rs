@@ -1,8 +1,8 @@
 //! Bytes at random, and rows whose fields are drawn at random about their ranges.
 
-use reference::draft::{Draft, PositionDraft, SeriesDraft, HELD};
+use reference::draft::{trailer_for, Draft, PositionDraft, SeriesDraft, HELD};
+use reference::position_row::FLAG_LIMITER;
 use reference::random::Random;
-use reference::reader::{distance, FLAG_LIMITER};
 
 use crate::files::{random_bytes, weighted};
 
@@ -41,7 +41,7 @@ fn bytes_before_trailer(random: &mut Random) -> Vec<u8> {
     let positions = random.between(1, 5) as usize;
     let cover = random.pick(&[0, 0, 1, 24, 50]);
     let mut bytes = random_bytes(random, cover + 24 * series + 32 * positions);
-    bytes.extend(trailer_of(series, positions));
+    bytes.extend(trailer_for(series, positions));
     bytes
 }
 
@@ -50,18 +50,8 @@ fn bytes_before_counts(random: &mut Random) -> Vec<u8> {
     let mut bytes = bytes_up_to(random, 300);
     let series = random.pick(&[0, 1, 2, 31, 32, 33, 65_535]);
     let positions = random.pick(&[0, 1, 2, 255, 256, 257, 65_535]);
-    bytes.extend(trailer_of(series, positions));
+    bytes.extend(trailer_for(series, positions));
     bytes
-}
-
-fn trailer_of(series: usize, positions: usize) -> Vec<u8> {
-    let draft = Draft {
-        stated_s: Some(series as u16),
-        stated_p: Some(positions as u16),
-        stated_distance: Some(distance(series, positions) as u32),
-        ..Draft::default()
-    };
-    draft.trailer()
 }
 
 fn fields_about_ranges(random: &mut Random) -> Vec<u8> {
@@ -76,7 +66,7 @@ fn about(random: &mut Random, least: i64, most: i64) -> u32 {
     match random.between(0, 199) {
         0 => (most + 1) as u32,
         1 => (least - 1) as u32,
-        2 => random.next() as u32,
+        2 => random.draw() as u32,
         3..=30 => random.pick(&[least, most]) as u32,
         _ => random.between(least, most) as u32,
     }
@@ -131,7 +121,7 @@ fn random_position(random: &mut Random, all_series: &[SeriesDraft]) -> PositionD
         row.flags |= random.pick(&[0, 0, 0, 0, 0, 1]);
     }
     if random.chance(1) {
-        row.flags = random.next() as u8;
+        row.flags = random.draw() as u8;
     }
     row
 }

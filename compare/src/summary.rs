@@ -37,7 +37,7 @@ impl Tally {
 }
 
 impl Summary {
-    pub fn add_file(&mut self, file: &File, refusal: Option<i128>) {
+    pub fn add_file(&mut self, file: &File, refusal: Option<i64>) {
         self.files += 1;
         self.families.add(file.family.name());
         self.outcomes[refusal.unwrap_or(0) as usize] += 1;

@@ -3,7 +3,7 @@
 use std::collections::BTreeSet;
 
 use reference::account::Account;
-use reference::pairing::margin;
+use reference::lines::margin;
 use reference::reader::read_account;
 
 use crate::changes::{Change, Changed, CHANGES};
@@ -24,7 +24,7 @@ fn files_of(family: Family, count: u64) -> impl Iterator<Item = File> {
 }
 
 /// 0 for accepted files, else the number of the refusal.
-fn outcomes(family: Family, count: u64) -> BTreeSet<i128> {
+fn outcomes(family: Family, count: u64) -> BTreeSet<i64> {
     let outcome = |file: File| read_account(&file.bytes).map_or_else(|r| r.number, |_| 0);
     files_of(family, count).map(outcome).collect()
 }
@@ -98,7 +98,7 @@ fn damaged_files_are_accepted_or_refused_with_every_number() {
 }
 
 /// Compares the reference with the other implementation on the first files.
-fn compared(other: &dyn Implementation, count: u64) -> Result<Summary, Difference> {
+fn compared(other: &dyn Implementation, count: u64) -> Result<Summary, Box<Difference>> {
     let mut lending = Lending::new();
     let mut summary = Summary::default();
     for number in 0..count {
@@ -124,7 +124,7 @@ fn every_changed_answer_is_found() {
         }
         let found = compared(&Changed { of: &Reference, change }, 3_000);
         let difference = found.expect_err(name);
-        let written = matches!(difference, Difference::FileWrittenTo { .. });
+        let written = matches!(*difference, Difference::FileWrittenTo { .. });
         assert_eq!(written, change == Change::FileWritten, "{name}");
     }
 }

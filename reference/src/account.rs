@@ -2,13 +2,14 @@
 //!
 //! Prices, strikes, limiters, barriers, rebates and premiums are whole ticks.
 //! Factors are whole millionths. A fine unit is a millionth of a tick. Money
-//! is whole centavos. All of them are `i128` here, so that no sum or product
-//! in this package can overflow.
+//! is whole centavos. All of them are `i64` here: the largest price in fine
+//! units is 10^14, the largest total below 3 × 10^18. The few products that are
+//! larger are made in `i128`.
 
-pub const MILLION: i128 = 1_000_000;
+pub const MILLION: i64 = 1_000_000;
 
 /// Ticks to fine units: done before ticks meet fine units.
-pub fn fine(ticks: i128) -> i128 {
+pub fn fine(ticks: i64) -> i64 {
     ticks * MILLION
 }
 
@@ -28,17 +29,17 @@ pub enum Side {
 #[derive(Clone, Copy, Debug, PartialEq, Eq)]
 pub enum Barrier {
     None,
-    UpAndIn(i128),
-    DownAndIn(i128),
-    UpAndOut(i128),
-    DownAndOut(i128),
+    UpAndIn(i64),
+    DownAndIn(i64),
+    UpAndOut(i64),
+    DownAndOut(i64),
 }
 
 /// A limiter at 0 (possible for a put) is not the same as no limiter.
 #[derive(Clone, Copy, Debug, PartialEq, Eq)]
 pub enum Limiter {
     Absent,
-    At(i128),
+    At(i64),
 }
 
 /// Positions of one series share underlying, type, expiry and way of
@@ -46,31 +47,31 @@ pub enum Limiter {
 #[derive(Clone, Copy, Debug, PartialEq, Eq)]
 pub struct Series {
     /// PV, today's price, in ticks.
-    pub pv: i128,
+    pub pv: i64,
     /// High stress factor, in millionths.
-    pub fa: i128,
+    pub fa: i64,
     /// Low stress factor, in millionths.
-    pub fb: i128,
+    pub fb: i64,
     /// Minimum factor, in millionths.
-    pub f3: i128,
+    pub f3: i64,
     /// Centavos per tick per contract.
-    pub m: i128,
+    pub m: i64,
     pub option_type: OptionType,
 }
 
 impl Series {
     /// H = PV × fa: ticks by millionths are fine units, exact.
-    pub fn high(&self) -> i128 {
+    pub fn high(&self) -> i64 {
         self.pv * self.fa
     }
 
     /// L = PV × fb, in fine units.
-    pub fn low(&self) -> i128 {
+    pub fn low(&self) -> i64 {
         self.pv * self.fb
     }
 
     /// MM = f3 × PV, in fine units.
-    pub fn minimum_margin(&self) -> i128 {
+    pub fn minimum_margin(&self) -> i64 {
         self.f3 * self.pv
     }
 }
@@ -89,23 +90,23 @@ pub struct Position {
     /// Flag 8.
     pub opened_before_annex: bool,
     /// Q, contracts.
-    pub quantity: i128,
+    pub quantity: i64,
     /// PE.
-    pub strike: i128,
+    pub strike: i64,
     /// REB.
-    pub rebate: i128,
+    pub rebate: i64,
     /// Unsettled premium.
-    pub premium: i128,
+    pub premium: i64,
 }
 
 /// What margin, spread and payment depend on. Two positions of a series are
 /// the same option exactly where their terms are equal.
 #[derive(Clone, Copy, Debug, PartialEq, Eq)]
 pub struct Terms {
-    pub strike: i128,
+    pub strike: i64,
     pub limiter: Limiter,
     pub barrier: Barrier,
-    pub rebate: i128,
+    pub rebate: i64,
 }
 
 impl Position {

@@ -1,6 +1,8 @@
 //! Files from fields. A draft may be wrong in any field: nothing is checked
 //! here, so that faulty files can be made as well as good ones.
 
+use crate::position_row::{FLAG_BEFORE_ANNEX, FLAG_EUROPEAN, FLAG_KNOCKED_IN, FLAG_LIMITER};
+
 #[derive(Clone, Copy, Debug, PartialEq, Eq)]
 pub struct SeriesDraft {
     pub pv: u32,
@@ -81,7 +83,7 @@ impl PositionDraft {
             series,
             side,
             kind: NO_BARRIER,
-            flags: crate::reader::FLAG_EUROPEAN,
+            flags: FLAG_EUROPEAN,
             spare: [0; 3],
             quantity,
             strike,
@@ -100,7 +102,7 @@ impl PositionDraft {
     }
 
     pub fn with_limiter(mut self, price: u32) -> PositionDraft {
-        self.flags |= crate::reader::FLAG_LIMITER;
+        self.flags |= FLAG_LIMITER;
         self.limiter = price;
         self
     }
@@ -112,18 +114,18 @@ impl PositionDraft {
 
     /// Already knocked in.
     pub fn knocked_in(mut self) -> PositionDraft {
-        self.flags |= crate::reader::FLAG_KNOCKED_IN;
+        self.flags |= FLAG_KNOCKED_IN;
         self
     }
 
     /// The limiter and knocked-in bits stay, the other two are set as given.
     pub fn style(mut self, european: bool, before_annex: bool) -> PositionDraft {
-        self.flags &= !(crate::reader::FLAG_EUROPEAN | crate::reader::FLAG_BEFORE_ANNEX);
+        self.flags &= !(FLAG_EUROPEAN | FLAG_BEFORE_ANNEX);
         if european {
-            self.flags |= crate::reader::FLAG_EUROPEAN;
+            self.flags |= FLAG_EUROPEAN;
         }
         if before_annex {
-            self.flags |= crate::reader::FLAG_BEFORE_ANNEX;
+            self.flags |= FLAG_BEFORE_ANNEX;
         }
         self
     }
@@ -150,11 +152,10 @@ impl Draft {
     }
 
     pub fn trailer(&self) -> Vec<u8> {
-        let s = self.stated_s.unwrap_or(self.series.len() as u16);
-        let p = self.stated_p.unwrap_or(self.positions.len() as u16);
-        let distance = self
-            .stated_distance
-            .unwrap_or(12 + 24 * self.series.len() as u32 + 32 * self.positions.len() as u32);
+        let (series, positions) = (self.series.len(), self.positions.len());
+        let s = self.stated_s.unwrap_or(series as u16);
+        let p = self.stated_p.unwrap_or(positions as u16);
+        let distance = self.stated_distance.unwrap_or(distance_for(series, positions));
         let mut bytes = Vec::new();
         bytes.extend(s.to_le_bytes());
         bytes.extend(p.to_le_bytes());
@@ -174,6 +175,21 @@ impl Draft {
         bytes.extend(self.trailer());
         bytes
     }
+}
+
+/// The trailer that states these counts, and the distance for them.
+pub fn trailer_for(series: usize, positions: usize) -> Vec<u8> {
+    let draft = Draft {
+        stated_s: Some(series as u16),
+        stated_p: Some(positions as u16),
+        stated_distance: Some(distance_for(series, positions)),
+        ..Draft::default()
+    };
+    draft.trailer()
+}
+
+fn distance_for(series: usize, positions: usize) -> u32 {
+    12 + 24 * series as u32 + 32 * positions as u32
 }
 
 /// The account of the document's example output.

@@ -1,18 +1,19 @@
 //! Reference for flexible option margin by circular 081/2003.
 //!
 //! An executable specification: every rule of the scope document stands here
-//! once, in the document's own order and names, with plain algorithms and wide
-//! whole numbers. It decides expected outputs; it is not meant to be fast.
+//! once, in the document's own order and names, with plain algorithms. It
+//! decides expected outputs; it is not meant to be fast.
 //!
 //! Reading order:
 //!
 //! 1. [`account`]: series, positions, fine units
-//! 2. [`reader`]: bytes to account, or refusal
+//! 2. [`reader`] and [`position_row`]: bytes to account, or refusal
 //! 3. [`position`]: unit margin and amount of one position
 //! 4. [`spread`]: unit spread margin of a pair
-//! 5. [`pairing`]: the repeated choice of pairs, lines and total
-//! 6. [`output`]: what the margin program prints
-//! 7. [`paths`]: paths and payments, as the document defines them
+//! 5. [`pairing`]: the repeated choice of pairs
+//! 6. [`lines`]: lines and total
+//! 7. [`output`]: what the margin program prints
+//! 8. [`paths`]: paths and payments, as the document defines them
 //!
 //! Then the tools: [`random`] (numbers from a seed), [`draft`] (files from
 //! fields), [`sample`] (random accounts), [`brute_force`] (checks the four
@@ -20,10 +21,12 @@
 //! their expected output).
 
 pub mod account;
+pub mod lines;
 pub mod output;
 pub mod pairing;
 pub mod paths;
 pub mod position;
+pub mod position_row;
 pub mod reader;
 pub mod spread;
 

@@ -1,6 +1,6 @@
 //! What the margin program prints for one file.
 
-use crate::pairing::margin;
+use crate::lines::margin;
 use crate::reader::read_account;
 
 /// The printed output, every line with its line end.

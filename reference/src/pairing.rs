@@ -1,42 +1,21 @@
-//! Pairs, lines and total.
+//! Pairs: which are allowed, which comes next, and all of them as made.
 
 use crate::account::{Account, Side};
-use crate::position::{amount, premium_amount, written_unit_margin};
-use crate::reader::{read_account, Refusal};
+use crate::position::{amount, written_unit_margin};
 use crate::spread::unit_spread_margin;
 
 #[derive(Clone, Copy, Debug, PartialEq, Eq)]
 pub struct Pair {
     pub written: usize,
     pub held: usize,
-    pub quantity: i128,
-    pub amount: i128,
-}
-
-#[derive(Clone, Copy, Debug, PartialEq, Eq)]
-pub struct Left {
-    pub row: usize,
-    pub quantity: i128,
-    pub amount: i128,
-}
-
-/// The whole answer for an accepted account.
-#[derive(Clone, Debug, PartialEq, Eq)]
-pub struct Margin {
-    /// Pairs as made.
-    pub pairs: Vec<Pair>,
-    /// Rows with contracts left, in row order.
-    pub left: Vec<Left>,
-    /// Premium × M × Q of every held row, paired or not.
-    pub premium: i128,
-    /// Line amounts and premium.
-    pub total: i128,
+    pub quantity: i64,
+    pub amount: i64,
 }
 
 /// The unit spread margin of a written and a held row where the two may be
 /// paired and the pair lowers the margin; nothing otherwise. Contracts left
 /// are not looked at here.
-pub fn allowed_spread(account: &Account, written: usize, held: usize) -> Option<i128> {
+pub fn allowed_spread(account: &Account, written: usize, held: usize) -> Option<i64> {
     let w = &account.positions[written];
     let h = &account.positions[held];
     let one_of_each = w.side == Side::Written && h.side == Side::Held;
@@ -59,8 +38,8 @@ pub fn allowed_spread(account: &Account, written: usize, held: usize) -> Option<
 /// difference without sign, then the lowest written row, then the lowest held
 /// row. All series together. Gives written row, held row and unit spread
 /// margin.
-pub fn next_pair(account: &Account, contracts_left: &[i128]) -> Option<(usize, usize, i128)> {
-    let mut best: Option<(i128, usize, usize, i128)> = None;
+pub fn next_pair(account: &Account, contracts_left: &[i64]) -> Option<(usize, usize, i64)> {
+    let mut best: Option<(i64, usize, usize, i64)> = None;
     // Rows are tried in rising order, so that a later pair has to be better
     // than, and not as good as, the best so far.
     for written in 0..account.positions.len() {
@@ -85,72 +64,32 @@ pub fn next_pair(account: &Account, contracts_left: &[i128]) -> Option<(usize, u
     best.map(|(_, written, held, spread)| (written, held, spread))
 }
 
-/// Pairs, rows left, premium and total of an account.
-pub fn margin(account: &Account) -> Margin {
-    let mut contracts_left: Vec<i128> = account.positions.iter().map(|p| p.quantity).collect();
-
-    let mut pairs = Vec::new();
-    while let Some((written, held, spread)) = next_pair(account, &contracts_left) {
-        let quantity = contracts_left[written].min(contracts_left[held]);
-        contracts_left[written] -= quantity;
-        contracts_left[held] -= quantity;
-        pairs.push(Pair {
-            written,
-            held,
-            quantity,
-            amount: amount(spread, account.series_of(written).m, quantity),
-        });
-    }
-
-    let mut left = Vec::new();
-    for (row, position) in account.positions.iter().enumerate() {
-        let quantity = contracts_left[row];
-        if quantity == 0 {
-            continue;
-        }
-        let series = account.series_of(row);
-        left.push(Left {
-            row,
-            quantity,
-            amount: match position.side {
-                Side::Held => 0,
-                Side::Written => {
-                    let unit = written_unit_margin(series, &position.terms());
-                    amount(unit, series.m, quantity)
-                }
-            },
-        });
-    }
-
-    let premium = (0..account.positions.len()).map(|row| premium_amount(account, row)).sum();
-    let pair_amounts: i128 = pairs.iter().map(|p| p.amount).sum();
-    let left_amounts: i128 = left.iter().map(|l| l.amount).sum();
-    let total = pair_amounts + left_amounts + premium;
-
-    Margin { pairs, left, premium, total }
+/// The pair of two rows at this unit spread margin. It takes the smaller
+/// quantity left.
+pub fn make_pair(
+    account: &Account,
+    contracts_left: &mut [i64],
+    written: usize,
+    held: usize,
+    spread: i64,
+) -> Pair {
+    let quantity = contracts_left[written].min(contracts_left[held]);
+    contracts_left[written] -= quantity;
+    contracts_left[held] -= quantity;
+    let amount = amount(spread, account.series_of(written).m, quantity);
+    Pair { written, held, quantity, amount }
 }
 
-/// An entry of the caller's list: 1 for a pair or 2 for a row left, then the
-/// fields; the fifth number of a row left is 0.
-pub type Entry = [i128; 5];
+/// The contracts of each row that pairs may use.
+pub fn contracts(account: &Account) -> Vec<i64> {
+    account.positions.iter().map(|position| position.quantity).collect()
+}
 
-/// Line count and total, with the lines written to the caller's list. Entries
-/// after the line count stay, and on a refusal the whole list stays. The file
-/// comes first; a list with fewer than p entries is refusal 12.
-pub fn margin_into(bytes: &[u8], list: &mut [Entry]) -> Result<(usize, i128), Refusal> {
-    let account = read_account(bytes)?;
-    if list.len() < account.positions.len() {
-        return Err(Refusal { number: 12, row: 0 });
+/// All pairs as made, until none is allowed.
+pub fn repeated_choice(account: &Account, contracts_left: &mut [i64]) -> Vec<Pair> {
+    let mut pairs = Vec::new();
+    while let Some((written, held, spread)) = next_pair(account, contracts_left) {
+        pairs.push(make_pair(account, contracts_left, written, held, spread));
     }
-    let answer = margin(&account);
-    let mut count = 0;
-    for pair in &answer.pairs {
-        list[count] = [1, pair.written as i128, pair.held as i128, pair.quantity, pair.amount];
-        count += 1;
-    }
-    for left in &answer.left {
-        list[count] = [2, left.row as i128, left.quantity, left.amount, 0];
-        count += 1;
-    }
-    Ok((count, answer.total))
+    pairs
 }

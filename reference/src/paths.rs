@@ -5,13 +5,14 @@ use std::cmp::{max, min};
 use crate::account::{fine, Barrier, Limiter, OptionType, Series, Terms, MILLION};
 
 /// May price q come later than price p on a path?
-pub fn may_follow(series: &Series, p: i128, q: i128) -> bool {
-    p * series.fb <= q * MILLION && q * MILLION <= p * series.fa
+pub fn may_follow(series: &Series, p: i64, q: i64) -> bool {
+    let product = |price: i64, factor: i64| i128::from(price) * i128::from(factor);
+    product(p, series.fb) <= product(q, MILLION) && product(q, MILLION) <= product(p, series.fa)
 }
 
 /// A path is a non-empty list of prices in whole fine units, each from L to H,
 /// and every later price is bound by every earlier one.
-pub fn is_path(series: &Series, prices: &[i128]) -> bool {
+pub fn is_path(series: &Series, prices: &[i64]) -> bool {
     if prices.is_empty() {
         return false;
     }
@@ -29,9 +30,9 @@ pub fn is_path(series: &Series, prices: &[i128]) -> bool {
 }
 
 /// What a position pays per unit at the end of a path, in fine units.
-pub fn payment(option_type: OptionType, terms: &Terms, prices: &[i128]) -> i128 {
-    let touched_up = |price: i128| prices.iter().any(|&x| x >= fine(price));
-    let touched_down = |price: i128| prices.iter().any(|&x| x <= fine(price));
+pub fn payment(option_type: OptionType, terms: &Terms, prices: &[i64]) -> i64 {
+    let touched_up = |price: i64| prices.iter().any(|&x| x >= fine(price));
+    let touched_down = |price: i64| prices.iter().any(|&x| x <= fine(price));
     let alive = match terms.barrier {
         Barrier::None => true,
         Barrier::UpAndIn(price) => touched_up(price),

@@ -6,14 +6,14 @@ use crate::account::{fine, Account, Barrier, Limiter, OptionType, Series, Side, 
 use crate::reader::read_account;
 
 /// Unit margin of a written position, in fine units: first rule that applies.
-pub fn written_unit_margin(series: &Series, terms: &Terms) -> i128 {
+pub fn written_unit_margin(series: &Series, terms: &Terms) -> i64 {
     match series.option_type {
         OptionType::Call => written_call(series, terms),
         OptionType::Put => written_put(series, terms),
     }
 }
 
-fn written_call(series: &Series, terms: &Terms) -> i128 {
+fn written_call(series: &Series, terms: &Terms) -> i64 {
     let mm = series.minimum_margin();
     let reb = fine(terms.rebate);
     let pe = fine(terms.strike);
@@ -25,7 +25,7 @@ fn written_call(series: &Series, terms: &Terms) -> i128 {
         Limiter::Absent => h,
     };
     // C, for the high price in force.
-    let payoff = |h: i128| min(pb, h) - pe;
+    let payoff = |h: i64| min(pb, h) - pe;
 
     match terms.barrier {
         Barrier::None => max3(mm, reb, payoff(h)),
@@ -46,7 +46,7 @@ fn written_call(series: &Series, terms: &Terms) -> i128 {
     }
 }
 
-fn written_put(series: &Series, terms: &Terms) -> i128 {
+fn written_put(series: &Series, terms: &Terms) -> i64 {
     let mm = series.minimum_margin();
     let reb = fine(terms.rebate);
     let pe = fine(terms.strike);
@@ -58,7 +58,7 @@ fn written_put(series: &Series, terms: &Terms) -> i128 {
         Limiter::Absent => l,
     };
     // P, for the low price in force.
-    let payoff = |l: i128| pe - max(pb, l);
+    let payoff = |l: i64| pe - max(pb, l);
 
     match terms.barrier {
         Barrier::None => max3(mm, reb, payoff(l)),
@@ -81,25 +81,23 @@ fn written_put(series: &Series, terms: &Terms) -> i128 {
 
 /// Fine units per contract to centavos: unit × M × quantity, divided by
 /// 1,000,000 and rounded up once.
-pub fn amount(unit: i128, m: i128, quantity: i128) -> i128 {
+pub fn amount(unit: i64, m: i64, quantity: i64) -> i64 {
+    let [unit, m, quantity, million] = [unit, m, quantity, MILLION].map(i128::from);
     let exact = unit * m * quantity;
-    let whole = exact / MILLION;
-    if whole * MILLION == exact {
-        whole
-    } else {
-        whole + 1
-    }
+    let whole = exact / million;
+    let rounded = if whole * million == exact { whole } else { whole + 1 };
+    rounded as i64
 }
 
 /// Premium × M × Q of a held row, exact; 0 for a written row, whose premium
 /// is 0.
-pub fn premium_amount(account: &Account, row: usize) -> i128 {
+pub fn premium_amount(account: &Account, row: usize) -> i64 {
     let position = &account.positions[row];
     position.premium * account.series_of(row).m * position.quantity
 }
 
 /// The amount of one row by itself, over all its contracts.
-pub fn position_amount(account: &Account, row: usize) -> i128 {
+pub fn position_amount(account: &Account, row: usize) -> i64 {
     let position = &account.positions[row];
     let series = account.series_of(row);
     match position.side {
@@ -113,7 +111,7 @@ pub fn position_amount(account: &Account, row: usize) -> i128 {
 
 /// The call for one row: its amount, or the refusal number with a minus sign.
 /// The file comes first; row p or above is refusal 13.
-pub fn one_position(bytes: &[u8], row: u64) -> i128 {
+pub fn one_position(bytes: &[u8], row: u64) -> i64 {
     match read_account(bytes) {
         Err(refusal) => -refusal.number,
         Ok(account) => {
@@ -126,6 +124,6 @@ pub fn one_position(bytes: &[u8], row: u64) -> i128 {
     }
 }
 
-fn max3(a: i128, b: i128, c: i128) -> i128 {
+fn max3(a: i64, b: i64, c: i64) -> i64 {
     max(a, max(b, c))
 }

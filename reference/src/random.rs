@@ -10,7 +10,7 @@ impl Random {
         Random { state: seed }
     }
 
-    pub fn next(&mut self) -> u64 {
+    pub fn draw(&mut self) -> u64 {
         self.state = self.state.wrapping_add(0x9E37_79B9_7F4A_7C15);
         let mut z = self.state;
         z = (z ^ (z >> 30)).wrapping_mul(0xBF58_476D_1CE4_E5B9);
@@ -22,7 +22,7 @@ impl Random {
     pub fn between(&mut self, least: i64, most: i64) -> i64 {
         assert!(least <= most);
         let width = (most - least) as u64 + 1;
-        least + (self.next() % width) as i64
+        least + (self.draw() % width) as i64
     }
 
     /// True about `percent` times in a hundred.

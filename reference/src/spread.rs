@@ -6,7 +6,7 @@ use crate::account::{fine, Barrier, Limiter, OptionType, Series, Terms};
 
 /// The unit spread margin in fine units, or nothing where the two do not pair.
 /// Terms are those after flag 1 is applied.
-pub fn unit_spread_margin(series: &Series, held: &Terms, written: &Terms) -> Option<i128> {
+pub fn unit_spread_margin(series: &Series, held: &Terms, written: &Terms) -> Option<i64> {
     // a) The same option.
     if held == written {
         return Some(0);
@@ -31,16 +31,14 @@ pub fn unit_spread_margin(series: &Series, held: &Terms, written: &Terms) -> Opt
             let reachable = series.low() <= fine(od_written);
             let highest = series.high();
             let lowest = if reachable { fine(od_written) } else { series.low() };
-            let same_barrier = od_held == od_written;
-            Some(knock_out_spread(series, held, written, same_barrier, reachable, lowest, highest))
+            Some(knock_out_spread(series, held, written, reachable, lowest, highest))
         }
         // e) and g)
         (Barrier::UpAndOut(ou_held), Barrier::UpAndOut(ou_written)) if ou_held >= ou_written => {
             let reachable = series.high() >= fine(ou_written);
             let highest = if reachable { fine(ou_written) } else { series.high() };
             let lowest = series.low();
-            let same_barrier = ou_held == ou_written;
-            Some(knock_out_spread(series, held, written, same_barrier, reachable, lowest, highest))
+            Some(knock_out_spread(series, held, written, reachable, lowest, highest))
         }
         // Nothing else pairs.
         _ => None,
@@ -53,16 +51,15 @@ fn knock_out_spread(
     series: &Series,
     held: &Terms,
     written: &Terms,
-    same_barrier: bool,
     reachable: bool,
-    lowest: i128,
-    highest: i128,
-) -> i128 {
+    lowest: i64,
+    highest: i64,
+) -> i64 {
     let mm = series.minimum_margin();
     let pe_held = fine(held.strike);
     let pe_written = fine(written.strike);
     // The held rebate counts only where both are knocked out together.
-    let r = if same_barrier {
+    let r = if held.barrier == written.barrier {
         max(0, fine(written.rebate) - fine(held.rebate))
     } else {
         fine(written.rebate)

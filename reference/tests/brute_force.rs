@@ -4,7 +4,7 @@
 use reference::account::Account;
 use reference::brute_force::{check, reference_claim};
 use reference::draft::{example, Draft, PositionDraft, SeriesDraft, CALL, UP_AND_OUT, WRITTEN};
-use reference::pairing::{margin, Left, Margin};
+use reference::lines::{margin, Left, Margin};
 use reference::paths::{is_path, payment};
 use reference::random::Random;
 use reference::reader::read_account;
@@ -108,7 +108,7 @@ fn payments_about_a_barrier() {
     let series = &account.series[0];
     let terms = account.positions[0].terms();
     let tick = 1_000_000;
-    let pays = |prices: &[i128]| payment(series.option_type, &terms, prices);
+    let pays = |prices: &[i64]| payment(series.option_type, &terms, prices);
     assert_eq!(pays(&[3500 * tick - 1]), 400 * tick - 1);
     assert_eq!(pays(&[3500 * tick]), 40 * tick);
     assert_eq!(pays(&[3500 * tick, 3400 * tick]), 40 * tick);

@@ -5,15 +5,16 @@ use reference::draft::{
     example, Draft, PositionDraft, SeriesDraft, CALL, DOWN_AND_IN, DOWN_AND_OUT, HELD, PUT,
     UP_AND_IN, UP_AND_OUT, WRITTEN,
 };
+use reference::lines::margin;
 use reference::output::margin_output;
-use reference::pairing::{allowed_spread, margin};
+use reference::pairing::allowed_spread;
 use reference::position::{one_position, position_amount, written_unit_margin};
 use reference::reader::read_account;
 use reference::spread::unit_spread_margin;
 
 /// Unit margin, in fine units, of a written row in the series of the checked
 /// values.
-fn unit(type_byte: u8, row: PositionDraft) -> i128 {
+fn unit(type_byte: u8, row: PositionDraft) -> i64 {
     let draft = Draft::new(vec![SeriesDraft::checked(type_byte)], vec![row]);
     let account = read_account(&draft.bytes()).expect("accepted");
     written_unit_margin(&account.series[0], &account.positions[0].terms())
@@ -33,7 +34,7 @@ fn held(strike: u32) -> PositionDraft {
 
 /// Unit spread margin of a written and a held call, if they pair at all, and
 /// whether the pair is allowed.
-fn spread(written: PositionDraft, held: PositionDraft) -> (Option<i128>, bool) {
+fn spread(written: PositionDraft, held: PositionDraft) -> (Option<i64>, bool) {
     let draft = Draft::new(vec![SeriesDraft::checked(CALL)], vec![written, held]);
     let account = read_account(&draft.bytes()).expect("accepted");
     let (w, h) = (account.positions[0].terms(), account.positions[1].terms());

@@ -6,8 +6,9 @@ use reference::draft::{
     example, Draft, PositionDraft, SeriesDraft, CALL, DOWN_AND_IN, DOWN_AND_OUT, HELD, PUT,
     UP_AND_IN, UP_AND_OUT, WRITTEN,
 };
+use reference::lines::{margin, margin_into, Entry};
 use reference::output::margin_output;
-use reference::pairing::{allowed_spread, margin, margin_into, Entry};
+use reference::pairing::allowed_spread;
 use reference::position::{one_position, written_unit_margin};
 use reference::reader::{read_account, Refusal};
 use reference::spread::unit_spread_margin;
@@ -24,12 +25,12 @@ fn held(strike: u32) -> PositionDraft {
     PositionDraft::plain(0, HELD, strike, 1)
 }
 
-fn unit(type_byte: u8, row: PositionDraft) -> i128 {
+fn unit(type_byte: u8, row: PositionDraft) -> i64 {
     let account = account(vec![SeriesDraft::checked(type_byte)], vec![row]);
     written_unit_margin(&account.series[0], &account.positions[0].terms())
 }
 
-fn spread(type_byte: u8, w: PositionDraft, h: PositionDraft) -> Option<i128> {
+fn spread(type_byte: u8, w: PositionDraft, h: PositionDraft) -> Option<i64> {
     let account = account(vec![SeriesDraft::checked(type_byte)], vec![w, h]);
     let (w, h) = (account.positions[0].terms(), account.positions[1].terms());
     unit_spread_margin(&account.series[0], &h, &w)
@@ -252,7 +253,7 @@ fn ties() {
 
 #[test]
 fn lines_in_the_lent_list() {
-    let untouched: Entry = [-7; 5];
+    let untouched: Entry = [77; 5];
     let mut list = [untouched; 5];
     assert_eq!(margin_into(&example().bytes(), &mut list), Ok((3, 10_800)));
     assert_eq!(
@@ -263,7 +264,7 @@ fn lines_in_the_lent_list() {
 
 #[test]
 fn list_too_short() {
-    let untouched: Entry = [-7; 5];
+    let untouched: Entry = [77; 5];
     let mut list = [untouched; 2];
     let bytes = example().bytes();
     assert_eq!(margin_into(&bytes, &mut list), Err(Refusal { number: 12, row: 0 }));

@@ -1,9 +1,14 @@
 //! The test files do what they were made for.
 
+use reference::account::{Account, Barrier, OptionType, Position, Side};
+use reference::lines::margin;
 use reference::output::margin_output;
-use reference::pairing::margin;
 use reference::reader::{read_account, Refusal};
 use reference::vectors::{all_cases, stdin_bytes, stdout_text, Expect};
+
+fn accepted_accounts() -> Vec<Account> {
+    all_cases().iter().filter_map(|case| read_account(&case.bytes).ok()).collect()
+}
 
 #[test]
 fn every_case_is_accepted_or_refused_as_it_was_made() {
@@ -19,55 +24,54 @@ fn every_case_is_accepted_or_refused_as_it_was_made() {
     }
 }
 
+/// Every refusal of a file, those of a row at row 0 and at a later one.
 #[test]
-fn enough_of_everything() {
+fn every_refusal() {
     let cases = all_cases();
     assert!(cases.len() >= 400);
-
-    // Every refusal from a row, at row 0 and at a later one.
     for number in 1..=11 {
         assert!(cases.iter().any(|c| c.expect == Expect::Refused(number, 0)), "{number} at 0");
-        if number >= 5 {
-            let later = cases
-                .iter()
-                .any(|c| matches!(c.expect, Expect::Refused(n, row) if n == number && row > 0));
-            assert!(later, "{number} later");
+        let later =
+            |expect| matches!(expect, Expect::Refused(found, row) if found == number && row > 0);
+        assert!(number < 5 || cases.iter().any(|c| later(c.expect)), "{number} later");
+    }
+}
+
+#[test]
+fn the_largest_files() {
+    let longest = |bytes: &[u8]| bytes.len() == 65_536 && read_account(bytes).is_ok();
+    assert!(all_cases().iter().any(|case| longest(&case.bytes)));
+    let accounts = accepted_accounts();
+    assert!(accounts.iter().any(|a| a.positions.len() == 256 && a.series.len() == 32));
+    let answers: Vec<_> = accounts.iter().map(margin).collect();
+    assert_eq!(answers.iter().map(|answer| answer.pairs.len()).max(), Some(255));
+    for (account, answer) in accounts.iter().zip(&answers) {
+        assert!(answer.pairs.len() + answer.left.len() <= account.positions.len());
+    }
+}
+
+/// Every barrier kind on written and held rows of calls and puts.
+#[test]
+fn every_barrier() {
+    let kind = |position: &Position| match position.barrier {
+        Barrier::None => 0,
+        Barrier::UpAndIn(_) => 1,
+        Barrier::DownAndIn(_) => 2,
+        Barrier::UpAndOut(_) => 3,
+        Barrier::DownAndOut(_) => 4,
+    };
+    let mut found = Vec::new();
+    for account in accepted_accounts() {
+        for position in &account.positions {
+            let option_type = account.series[position.series].option_type;
+            found.push((option_type, position.side, kind(position)));
         }
     }
-
-    let accounts: Vec<_> = cases.iter().filter_map(|c| read_account(&c.bytes).ok()).collect();
-    assert!(accounts.iter().any(|a| a.positions.len() == 256 && a.series.len() == 32));
-    assert!(cases.iter().any(|c| c.bytes.len() == 65_536 && c.expect == Expect::Accepted));
-
-    // As many lines as rows are possible, and many pairs.
-    let most_pairs = accounts.iter().map(|a| margin(a).pairs.len()).max().unwrap();
-    assert_eq!(most_pairs, 255);
-    for account in &accounts {
-        let answer = margin(account);
-        assert!(answer.pairs.len() + answer.left.len() <= account.positions.len());
-        assert!(answer.total <= i64::MAX as i128);
-    }
-
-    // Every barrier kind on written and held rows of calls and puts.
-    use reference::account::{Barrier, OptionType, Side};
     for option_type in [OptionType::Call, OptionType::Put] {
         for side in [Side::Written, Side::Held] {
             for kind in 0..5 {
-                let found = accounts.iter().any(|a| {
-                    a.positions.iter().any(|p| {
-                        let number = match p.barrier {
-                            Barrier::None => 0,
-                            Barrier::UpAndIn(_) => 1,
-                            Barrier::DownAndIn(_) => 2,
-                            Barrier::UpAndOut(_) => 3,
-                            Barrier::DownAndOut(_) => 4,
-                        };
-                        number == kind
-                            && p.side == side
-                            && a.series[p.series].option_type == option_type
-                    })
-                });
-                assert!(found, "{option_type:?} {side:?} kind {kind}");
+                let row = (option_type, side, kind);
+                assert!(found.contains(&row), "{row:?}");
             }
         }
     }
@@ -79,29 +83,27 @@ fn the_two_files_belong_together() {
     let input = stdin_bytes(&cases);
     let text = stdout_text(&cases);
     let mut outputs = text.split("\n\n");
-    let mut at = 0;
-    let mut count = 0;
-    while at < input.len() {
-        let length = u32::from_le_bytes(input[at..at + 4].try_into().unwrap()) as usize;
-        let bytes = &input[at + 4..at + 4 + length];
-        let expected = outputs.next().unwrap().to_string() + "\n";
-        assert_eq!(margin_output(bytes), expected);
-        at += 4 + length;
-        count += 1;
+    let mut rest = &input[..];
+    for _ in &cases {
+        let (length, after) = rest.split_at(4);
+        let length = u32::from_le_bytes(length.try_into().unwrap()) as usize;
+        let (bytes, after) = after.split_at(length);
+        assert_eq!(margin_output(bytes), outputs.next().unwrap().to_string() + "\n");
+        rest = after;
     }
-    assert_eq!(at, input.len());
-    assert_eq!(count, cases.len());
+    assert!(rest.is_empty());
     assert_eq!(outputs.next(), Some(""));
     assert_eq!(outputs.next(), None);
 }
 
-/// The files that stand in the package are those the generator makes.
+/// The files that stand in the repository are those the generator makes.
 #[test]
 fn the_stored_files_are_up_to_date() {
-    let folder = std::path::Path::new(env!("CARGO_MANIFEST_DIR")).join("vectors");
+    let stored = |name: &str| {
+        let folder = concat!(env!("CARGO_MANIFEST_DIR"), "/../crates/margin_batch/");
+        std::fs::read(folder.to_string() + name).expect(name)
+    };
     let cases = all_cases();
-    let input = std::fs::read(folder.join("vectors.stdin")).expect("vectors.stdin");
-    let output = std::fs::read(folder.join("vectors.stdout")).expect("vectors.stdout");
-    assert!(input == stdin_bytes(&cases));
-    assert!(output == stdout_text(&cases).into_bytes());
+    assert!(stored("stdin") == stdin_bytes(&cases));
+    assert!(stored("stdout") == stdout_text(&cases).into_bytes());
 }

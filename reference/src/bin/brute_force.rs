@@ -10,6 +10,19 @@ use reference::sample::{sample_account, Shape};
 
 const LONGEST_PATH: usize = 4;
 
+const SMALL: Shape = Shape {
+    series: (1, 2),
+    positions: (1, 7),
+    pv: (2, 60),
+    quantity: (1, 5),
+    m: (1, 3),
+    fb_above_one: false,
+};
+/// Larger numbers, so that rounding to centavos hides less.
+const WIDE: Shape = Shape { pv: (1, 10_000_000), quantity: (1, 100_000), m: (1, 1_000), ..SMALL };
+/// Cover and least amount are not promised here, contracts and pairs are.
+const HIGH_FB: Shape = Shape { fb_above_one: true, ..SMALL };
+
 fn main() -> ExitCode {
     let arguments: Vec<String> = std::env::args().skip(1).collect();
     let number = |at: usize, otherwise: u64| match arguments.get(at) {
@@ -20,49 +33,37 @@ fn main() -> ExitCode {
         eprintln!("usage: brute_force [count] [seed]");
         return ExitCode::from(2);
     };
+    match try_accounts(count, seed) {
+        Ok((pairs, steps)) => {
+            println!(
+                "seed {seed}: {count} accounts, {pairs} pairs, {steps} path steps, no violation"
+            );
+            ExitCode::SUCCESS
+        }
+        Err(words) => {
+            println!("seed {seed}, {words}");
+            ExitCode::FAILURE
+        }
+    }
+}
 
-    let small = Shape {
-        series: (1, 2),
-        positions: (1, 7),
-        pv: (2, 60),
-        quantity: (1, 5),
-        m: (1, 3),
-        fb_above_one: false,
-    };
-    // Larger numbers, so that rounding to centavos hides less.
-    let wide = Shape { pv: (1, 10_000_000), quantity: (1, 100_000), m: (1, 1_000), ..small };
-    // Cover and least amount are not promised here, contracts and pairs are.
-    let high_fb = Shape { fb_above_one: true, ..small };
-
+/// How many pairs were made and path steps tried.
+fn try_accounts(count: u64, seed: u64) -> Result<(usize, u64), String> {
     let mut random = Random::new(seed);
-    let mut steps: u64 = 0;
-    let mut pairs: u64 = 0;
+    let (mut pairs, mut steps) = (0, 0);
     for tried in 0..count {
         let shape = match tried % 8 {
-            6 => wide,
-            7 => high_fb,
-            _ => small,
+            6 => WIDE,
+            7 => HIGH_FB,
+            _ => SMALL,
         };
         let bytes = sample_account(&mut random, &shape).bytes();
-        let account = match read_account(&bytes) {
-            Ok(account) => account,
-            Err(refusal) => {
-                println!("account {tried}: the sample is refused: {refusal:?}");
-                return ExitCode::FAILURE;
-            }
-        };
+        let account = read_account(&bytes)
+            .map_err(|refusal| format!("account {tried}: the sample is refused: {refusal:?}"))?;
         let claim = reference_claim(&account);
-        match check(&account, &claim, LONGEST_PATH) {
-            Ok(tried_steps) => steps += tried_steps,
-            Err(violation) => {
-                println!("account {tried} of seed {seed}: {violation}");
-                println!("{account:#?}");
-                println!("{claim:#?}");
-                return ExitCode::FAILURE;
-            }
-        }
-        pairs += claim.margin.pairs.len() as u64;
+        steps += check(&account, &claim, LONGEST_PATH)
+            .map_err(|words| format!("account {tried}: {words}\n{account:#?}\n{claim:#?}"))?;
+        pairs += claim.margin.pairs.len();
     }
-    println!("seed {seed}: {count} accounts, {pairs} pairs, {steps} path steps, no violation");
-    ExitCode::SUCCESS
+    Ok((pairs, steps))
 }

@@ -1,24 +1,33 @@
-//! `make_vectors [DIRECTORY]` writes `vectors.stdin` (each account as its
-//! length in four little-endian bytes, then its bytes) and `vectors.stdout`
-//! (each account's printed output followed by an empty line).
+//! `make_vectors FOLDER` writes `stdin` (each account as its length in four
+//! little-endian bytes, then its bytes) and `stdout` (each account's printed
+//! output followed by an empty line), and prints what was made.
 
 use std::path::PathBuf;
+use std::process::ExitCode;
 
 use reference::output::margin_output;
-use reference::vectors::{all_cases, stdin_bytes, stdout_text};
+use reference::vectors::{all_cases, stdin_bytes, stdout_text, Case};
 
-fn main() {
-    let directory = PathBuf::from(std::env::args().nth(1).unwrap_or_else(|| ".".to_string()));
+fn main() -> ExitCode {
+    let Some(folder) = std::env::args().nth(1).map(PathBuf::from) else {
+        eprintln!("usage: make_vectors FOLDER");
+        return ExitCode::from(2);
+    };
     let cases = all_cases();
-    let input = stdin_bytes(&cases);
-    let output = stdout_text(&cases);
-    std::fs::write(directory.join("vectors.stdin"), &input).expect("vectors.stdin");
-    std::fs::write(directory.join("vectors.stdout"), &output).expect("vectors.stdout");
+    let (input, output) = (stdin_bytes(&cases), stdout_text(&cases));
+    std::fs::write(folder.join("stdin"), &input).expect("stdin");
+    std::fs::write(folder.join("stdout"), &output).expect("stdout");
+    report(&cases);
+    let (accounts, read, written) = (cases.len(), input.len(), output.len());
+    println!("{accounts} accounts, {read} bytes in stdin, {written} bytes in stdout");
+    ExitCode::SUCCESS
+}
 
-    // What was made, by group and by outcome.
+/// By group and by outcome.
+fn report(cases: &[Case]) {
     let mut groups: Vec<(&str, usize)> = Vec::new();
     let mut refused = [0; 14];
-    for case in &cases {
+    for case in cases {
         match groups.iter_mut().find(|(group, _)| *group == case.group) {
             Some((_, count)) => *count += 1,
             None => groups.push((case.group, 1)),
@@ -33,15 +42,7 @@ fn main() {
         println!("{count:5} {group}");
     }
     println!("{:5} accepted", cases.len() - refused.iter().sum::<usize>());
-    for (number, count) in refused.iter().enumerate() {
-        if *count > 0 {
-            println!("{count:5} refused {number}");
-        }
+    for (number, count) in refused.iter().enumerate().filter(|(_, count)| **count > 0) {
+        println!("{count:5} refused {number}");
     }
-    println!(
-        "{} accounts, {} bytes in vectors.stdin, {} bytes in vectors.stdout",
-        cases.len(),
-        input.len(),
-        output.len()
-    );
 }

@@ -1,0 +1,15 @@
+//! The library that the program is linked with.
+
+use compare::implementation::{Implementation, Line, Margin};
+
+pub struct Library;
+
+impl Implementation for Library {
+    fn margin(&self, file: &[u8], entries: &mut [Line], room: usize) -> Margin {
+        library::margin(file, &mut entries[..room])
+    }
+
+    fn position_amount(&self, file: &[u8], row: u64) -> i64 {
+        library::position_amount(file, row)
+    }
+}

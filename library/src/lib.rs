@@ -1,0 +1,46 @@
+//! The C entries of include/serpentgleam.h.
+
+use std::ptr::{null, null_mut};
+
+/// `struct serpentgleam_line`: kind, first, second, third, fourth.
+pub type Line = [u64; 5];
+
+/// `struct serpentgleam_result`.
+#[repr(C)]
+#[derive(Clone, Copy, Debug, PartialEq, Eq)]
+pub struct Margin {
+    pub refusal: u64,
+    pub row: u64,
+    pub lines: u64,
+    pub total: u64,
+}
+
+extern "C" {
+    fn serpentgleam_margin(file: *const u8, length: usize, lines: *mut Line, room: usize)
+        -> Margin;
+    fn serpentgleam_position_amount(file: *const u8, length: usize, row: u64) -> i64;
+}
+
+/// The file's margin, its lines in the list.
+#[inline]
+pub fn margin(file: &[u8], list: &mut [Line]) -> Margin {
+    let lines = if list.is_empty() { null_mut() } else { list.as_mut_ptr() };
+    // SAFETY: the file and the list are as long as is said, and do not overlap.
+    unsafe { serpentgleam_margin(start_of(file), file.len(), lines, list.len()) }
+}
+
+/// The amount of one position, or minus the refusal's number.
+#[inline]
+pub fn position_amount(file: &[u8], row: u64) -> i64 {
+    // SAFETY: the file is as long as is said.
+    unsafe { serpentgleam_position_amount(start_of(file), file.len(), row) }
+}
+
+/// NULL for a file without bytes.
+fn start_of(file: &[u8]) -> *const u8 {
+    if file.is_empty() {
+        null()
+    } else {
+        file.as_ptr()
+    }
+}

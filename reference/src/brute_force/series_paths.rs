@@ -1,0 +1,151 @@
+//! What the paths of one series show.
+
+use std::cmp::max;
+
+use super::prices::{prices_of_interest, walk};
+use super::Claim;
+use crate::account::{Account, Series, Side};
+use crate::paths::payment;
+use crate::spread::unit_spread_margin;
+
+struct Watch<'a> {
+    account: &'a Account,
+    claim: &'a Claim,
+    number: usize,
+    series: &'a Series,
+    /// The rows of the series.
+    written: Vec<usize>,
+    held: Vec<usize>,
+    steps: u64,
+    /// What written rows pay out less what pairs bring in, at worst.
+    worst: Option<i128>,
+    /// Of each row of the account.
+    largest_payment: Vec<i64>,
+    violation: Option<String>,
+}
+
+/// Path steps tried, and what the series takes at worst, in millionths of a
+/// centavo; or the first violation.
+pub fn worst_paths(
+    account: &Account,
+    claim: &Claim,
+    number: usize,
+    longest_path: usize,
+) -> Result<(u64, i128), String> {
+    let mut watch = Watch::new(account, claim, number);
+    let prices = prices_of_interest(account, number);
+    let series = watch.series;
+    walk(series, &prices, &mut Vec::new(), longest_path, &mut |path| watch.look_at(path));
+    if let Some(words) = watch.violation.take() {
+        return Err(words);
+    }
+    let Some(worst) = watch.worst else {
+        return Err(format!("series {number} has no path"));
+    };
+    watch.check_least_amount()?;
+    Ok((watch.steps, worst))
+}
+
+impl<'a> Watch<'a> {
+    fn new(account: &'a Account, claim: &'a Claim, number: usize) -> Watch<'a> {
+        let rows_of = |side: Side| {
+            let of_side = |row: &usize| {
+                account.positions[*row].series == number && account.positions[*row].side == side
+            };
+            (0..account.positions.len()).filter(of_side).collect()
+        };
+        Watch {
+            account,
+            claim,
+            number,
+            series: &account.series[number],
+            written: rows_of(Side::Written),
+            held: rows_of(Side::Held),
+            steps: 0,
+            worst: None,
+            largest_payment: vec![0; account.positions.len()],
+            violation: None,
+        }
+    }
+
+    fn look_at(&mut self, path: &[i64]) {
+        self.steps += 1;
+        if self.violation.is_some() {
+            return;
+        }
+        let mut pays = vec![0; self.account.positions.len()];
+        for &row in self.written.iter().chain(&self.held) {
+            let terms = self.account.positions[row].terms();
+            pays[row] = payment(self.series.option_type, &terms, path);
+            self.largest_payment[row] = max(self.largest_payment[row], pays[row]);
+        }
+        let out = self.paid_out(&pays);
+        self.worst = Some(self.worst.map_or(out, |worst| max(worst, out)));
+        self.violation = self.units_cover(&pays, path).and(self.spreads_cover(&pays, path)).err();
+    }
+
+    /// What written rows pay out less what pairs bring in.
+    fn paid_out(&self, pays: &[i64]) -> i128 {
+        let money = |row: usize, quantity: i64| {
+            i128::from(pays[row]) * i128::from(self.series.m) * i128::from(quantity)
+        };
+        let quantity = |row: usize| self.account.positions[row].quantity;
+        let out: i128 = self.written.iter().map(|&row| money(row, quantity(row))).sum();
+        let of_series = |held: usize| self.account.positions[held].series == self.number;
+        let pairs = self.claim.margin.pairs.iter().filter(|pair| of_series(pair.held));
+        out - pairs.map(|pair| money(pair.held, pair.quantity)).sum::<i128>()
+    }
+
+    /// The least amount, first half: the unit margin covers.
+    fn units_cover(&self, pays: &[i64], path: &[i64]) -> Result<(), String> {
+        for &row in &self.written {
+            let (pays, unit) = (pays[row], self.claim.units[row]);
+            if unit < pays {
+                return Err(format!(
+                    "the least amount: row {row} pays {pays} on path {path:?}, \
+                     its unit margin is {unit}"
+                ));
+            }
+        }
+        Ok(())
+    }
+
+    /// Sharper than the document asks, since amounts are rounded up: the unit
+    /// spread margin covers one unit of any two rows that pair, whether or not
+    /// the pair was made.
+    fn spreads_cover(&self, pays: &[i64], path: &[i64]) -> Result<(), String> {
+        for &w in &self.written {
+            for &h in &self.held {
+                let [written, held] = [w, h].map(|row| self.account.positions[row].terms());
+                let Some(spread) = unit_spread_margin(self.series, &held, &written) else {
+                    continue;
+                };
+                if spread < pays[w] - pays[h] {
+                    return Err(format!(
+                        "unit spread margin {spread} of written row {w} and held row {h}: \
+                         pays {} and brings in {} on path {path:?}",
+                        pays[w], pays[h]
+                    ));
+                }
+            }
+        }
+        Ok(())
+    }
+
+    /// The least amount, second half. The least amount that covers a row on
+    /// the paths tried and is at least MM, with one fine unit added, is at
+    /// least the unit margin.
+    fn check_least_amount(&self) -> Result<(), String> {
+        for &row in &self.written {
+            let least = max(self.series.minimum_margin(), self.largest_payment[row]);
+            let unit = self.claim.units[row];
+            if least + 1 < unit {
+                return Err(format!(
+                    "the least amount: {least} covers row {row} on all paths tried, \
+                     its unit margin is {unit}"
+                ));
+            }
+        }
+        Ok(())
+    }
+}

@@ -1,0 +1,94 @@
+//! Accounts by chance, and good files with a change by chance.
+
+use super::rows::sound;
+use super::{Cases, Expect, SEED};
+use crate::position_row::FLAG_LIMITER;
+use crate::random::Random;
+use crate::sample::{sample_account, sample_series, Shape};
+
+const MIDDLE: Shape = Shape {
+    series: (1, 6),
+    positions: (8, 40),
+    pv: (900, 4000),
+    quantity: (1, 500),
+    m: (1, 100),
+    fb_above_one: true,
+};
+const SMALL: Shape = Shape {
+    series: (1, 3),
+    positions: (1, 12),
+    pv: (2, 60),
+    quantity: (1, 9),
+    m: (1, 9),
+    fb_above_one: true,
+};
+const WIDE: Shape = Shape {
+    series: (1, 4),
+    positions: (4, 24),
+    pv: (1, 10_000_000),
+    quantity: (1, 100_000),
+    m: (1, 1_000),
+    fb_above_one: true,
+};
+/// One series and many rows, for chains of pairs.
+const CROWDED: Shape = Shape { series: (1, 1), positions: (12, 40), ..MIDDLE };
+
+pub fn add_accounts(cases: &mut Cases) {
+    let mut random = Random::new(SEED + 3);
+    for (group, shape, count) in [
+        ("random, small prices", SMALL, 60),
+        ("random, middle prices", MIDDLE, 60),
+        ("random, all prices", WIDE, 60),
+        ("random, one series", CROWDED, 40),
+    ] {
+        cases.begin(group);
+        for number in 0..count {
+            let mut draft = sample_account(&mut random, &shape);
+            if random.chance(20) {
+                // A cover sheet of row bytes.
+                for _ in 0..random.between(1, 4) {
+                    draft.cover.extend(sample_series(&mut random, &shape).bytes());
+                    draft.cover.extend(draft.positions[0].bytes());
+                }
+            }
+            cases.accept(number.to_string(), draft);
+        }
+    }
+}
+
+pub fn add_changed_bytes(cases: &mut Cases) {
+    cases.begin("changed bytes");
+    let mut random = Random::new(SEED + 4);
+    one_byte(cases, &mut random);
+    flags(cases, &mut random);
+}
+
+/// One byte changed at random, in the rows or the trailer.
+fn one_byte(cases: &mut Cases, random: &mut Random) {
+    let shape = Shape { series: (1, 3), positions: (1, 5), ..MIDDLE };
+    for number in 0..80 {
+        let mut bytes = sample_account(random, &shape).bytes();
+        let at = random.between(0, bytes.len() as i64 - 1) as usize;
+        bytes[at] ^= random.between(1, 255) as u8;
+        cases.add(format!("{number}: byte {at}"), bytes, Expect::Open);
+    }
+}
+
+/// All flags that have a meaning, and some that have none, on a sound row.
+fn flags(cases: &mut Cases, random: &mut Random) {
+    for flags in 0..=255 {
+        if flags % 16 != 0 && flags > 15 && !random.chance(10) {
+            continue;
+        }
+        let mut draft = sound();
+        draft.positions[4].flags = flags;
+        // Row 4 is an up-and-in without a limiter price: flag 2 makes PB 0
+        // wrong.
+        let expect = match (flags > 15, flags & FLAG_LIMITER != 0) {
+            (true, _) => Expect::Refused(7, 4),
+            (false, true) => Expect::Refused(9, 4),
+            (false, false) => Expect::Accepted,
+        };
+        cases.add(format!("flags {flags}"), draft.bytes(), expect);
+    }
+}
