@@ -1,12 +1,7 @@
-//! Links the engine's static library, which `rt staticlib serpentgleam` writes.
-
-use std::env::var;
-use std::path::PathBuf;
+//! Links the program with the library's archive.
 
 fn main() {
-    let here = PathBuf::from(var("CARGO_MANIFEST_DIR").unwrap());
-    let folder = here.join("../target/staticlib");
-    println!("cargo:rustc-link-search=native={}", folder.display());
-    println!("cargo:rustc-link-lib=static=serpentgleam");
-    println!("cargo:rerun-if-changed={}", folder.join("libserpentgleam.a").display());
+    let archive = std::env::var("DEP_SERPENTGLEAM_ARCHIVE").expect("the path of the archive");
+    println!("cargo:rerun-if-changed={archive}");
+    println!("cargo:rustc-link-arg-bins={archive}");
 }

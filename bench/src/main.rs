@@ -1,115 +1,83 @@
 //! Measures the proved engine against the same work in Rust, from bytes to lines, and prints the tables of
 //! docs/PERFORMANCE.md. Every program's answer is compared with the engine's before it is timed.
 
-mod account;
-mod engine;
-mod heap;
-mod lanes;
-mod margin;
-mod reader;
-mod repeated_search;
-mod rules;
-mod shapes;
+mod timing;
 
 use std::hint::black_box;
-use std::time::{Duration, Instant};
 
-use account::{Answer, Line};
-use shapes::{account, Shape, SHAPES};
+use bench::shapes::{account, Shape, SHAPES};
+use bench::ways::{lanes, repeated_search, tournament};
+use reference::lines::{margin_into_by, Entry};
+use reference::position::one_position;
+use reference::reader::Refusal;
+use timing::measure;
 
-type Program = fn(&[u8], &mut [Line]) -> Answer;
+/// Line count and total, or the refusal.
+type Answer = Result<(usize, i64), Refusal>;
+type Program = fn(&[u8], &mut [Entry]) -> Answer;
+type PositionProgram = fn(&[u8], u64) -> i64;
 
 const PROGRAMS: [Program; 4] = [
-    engine::margin,
-    |file, lines| margin::margin(file, lines, repeated_search::pairs),
-    |file, lines| margin::margin(file, lines, lanes::pairs),
-    |file, lines| margin::margin(file, lines, heap::pairs),
+    engine,
+    |file, list| margin_into_by(file, list, repeated_search::pairs),
+    |file, list| margin_into_by(file, list, lanes::pairs),
+    |file, list| margin_into_by(file, list, tournament::pairs),
 ];
-const SIZES: [usize; 5] = [16, 32, 64, 128, 256];
+const POSITION_PROGRAMS: [PositionProgram; 2] = [library::position_amount, one_position];
+const SIZES: [u32; 5] = [16, 32, 64, 128, 256];
 
-/// Microseconds of one call, over as many calls as fill a millisecond.
-fn burst(mut call: impl FnMut()) -> f64 {
-    let start = Instant::now();
-    let mut calls = 0;
-    while start.elapsed() < Duration::from_millis(1) {
-        call();
-        calls += 1;
+fn engine(file: &[u8], list: &mut [Entry]) -> Answer {
+    let margin = library::margin(file, list);
+    match margin.refusal {
+        0 => Ok((margin.lines as usize, margin.total as i64)),
+        number => Err(Refusal { number: number as i64, row: margin.row as usize }),
     }
-    start.elapsed().as_secs_f64() * 1e6 / calls as f64
 }
 
-/// The best of each program over the rounds. The programs take turns, so that a change of the machine's clock affects
-/// all of them.
-fn measure<const N: usize>(rounds: usize, calls: [&dyn Fn(); N]) -> [f64; N] {
-    let mut best = [f64::MAX; N];
-    for _ in 0..rounds {
-        for (time, call) in best.iter_mut().zip(calls) {
-            *time = time.min(burst(call));
-        }
-    }
-    best
-}
-
-/// The answer of each program, which must be the engine's.
+/// The number of pairs. Each program's answer must be the engine's.
 fn compare(shape: &Shape, file: &[u8]) -> usize {
     let answers = PROGRAMS.map(|program| {
-        let mut lines = [Line::default(); 256];
-        (program(file, &mut lines), lines)
+        let mut list = [Entry::default(); 256];
+        (program(file, &mut list), list)
     });
     for answer in &answers[1..] {
         assert!(*answer == answers[0], "{}: the programs differ", shape.name);
     }
     assert!(answers[0].0.is_ok(), "{}: refused", shape.name);
-    answers[0].1.iter().filter(|line| line.kind == 1).count()
+    answers[0].1.iter().filter(|entry| entry[0] == 1).count()
 }
 
 fn times(rounds: usize, file: &[u8]) -> [f64; 4] {
     let calls = PROGRAMS.map(|program| {
         move || {
-            let mut lines = [Line::default(); 256];
-            black_box(program(black_box(file), black_box(&mut lines))).ok();
+            let mut list = [Entry::default(); 256];
+            black_box(program(black_box(file), black_box(&mut list))).ok();
         }
     });
     let [a, b, c, d] = &calls;
     measure(rounds, [a, b, c, d])
 }
 
-fn margin_table(rounds: usize, size: usize) -> Vec<f64> {
+/// The engine's times.
+fn margin_table(rounds: usize, size: u32) -> Vec<f64> {
     println!("\n### {size} rows\n");
-    print!("| shape | pairs | engine | repeated search | same algorithm | fastest");
-    println!(" | search / engine | engine / same | engine / fastest |");
+    print!("| shape | pairs | engine | repeated search | lanes | tournament");
+    println!(" | search / engine | engine / lanes | engine / tournament |");
     println!("|---|---|---|---|---|---|---|---|---|");
     let mut engine = Vec::new();
     for shape in &SHAPES {
         let file = account(shape, size);
         let pairs = compare(shape, &file);
-        let [own, search, same, fastest] = times(rounds, &file);
-        let ratios = [search / own, own / same, own / fastest];
         assert!(shape.pairs == (pairs > 0));
-        print!("| {} | {pairs} | {own:.1} | {search:.1} | {same:.1} | {fastest:.1}", shape.name);
-        println!(" | {:.1} | {:.1} | {:.1} |", ratios[0], ratios[1], ratios[2]);
+        let [own, search, lanes, tournament] = times(rounds, &file);
+        print!(
+            "| {} | {pairs} | {own:.1} | {search:.1} | {lanes:.1} | {tournament:.1}",
+            shape.name
+        );
+        println!(" | {:.1} | {:.1} | {:.1} |", search / own, own / lanes, own / tournament);
         engine.push(own);
     }
     engine
-}
-
-fn position_table(rounds: usize) {
-    println!("\n### One position's amount\n");
-    println!("| rows | engine | Rust reader | engine / Rust |");
-    println!("|---|---|---|---|");
-    for size in SIZES {
-        let file = account(&SHAPES[1], size);
-        let row = size - 2;
-        assert!(engine::position_amount(&file, row) == margin::position_amount(&file, row));
-        let calls = [engine::position_amount, margin::position_amount].map(|program| {
-            let file = &file;
-            move || {
-                black_box(program(black_box(file), black_box(row))).ok();
-            }
-        });
-        let [a, b] = measure(rounds, [&calls[0], &calls[1]]);
-        println!("| {size} | {a:.2} | {b:.2} | {:.2} |", a / b);
-    }
 }
 
 fn growth_table(engine: &[Vec<f64>]) {
@@ -122,6 +90,25 @@ fn growth_table(engine: &[Vec<f64>]) {
             print!(" {:.1} |", sizes[1][number] / sizes[0][number]);
         }
         println!();
+    }
+}
+
+fn position_table(rounds: usize) {
+    println!("\n### One position's amount\n");
+    println!("| rows | engine | Rust reader | engine / Rust |");
+    println!("|---|---|---|---|");
+    for size in SIZES {
+        let file = &account(&SHAPES[1], size);
+        let row = u64::from(size) - 2;
+        let [engine, rust] = POSITION_PROGRAMS.map(|program| program(file, row));
+        assert!(engine == rust && engine > 0);
+        let [engine, rust] = &POSITION_PROGRAMS.map(|program| {
+            move || {
+                black_box(program(black_box(file), black_box(row)));
+            }
+        });
+        let [engine, rust] = measure(rounds, [engine, rust]);
+        println!("| {size} | {engine:.2} | {rust:.2} | {:.2} |", engine / rust);
     }
 }
 

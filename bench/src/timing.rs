@@ -1,0 +1,26 @@
+//! Times of calls.
+
+use std::time::{Duration, Instant};
+
+/// Microseconds of one call, over as many calls as fill a millisecond.
+fn burst(mut call: impl FnMut()) -> f64 {
+    let start = Instant::now();
+    let mut calls = 0;
+    while start.elapsed() < Duration::from_millis(1) {
+        call();
+        calls += 1;
+    }
+    start.elapsed().as_secs_f64() * 1e6 / calls as f64
+}
+
+/// The best of each program over the rounds. The programs take turns, so that a change of the machine's clock affects
+/// all of them.
+pub fn measure<const N: usize>(rounds: usize, calls: [&dyn Fn(); N]) -> [f64; N] {
+    let mut best = [f64::MAX; N];
+    for _ in 0..rounds {
+        for (time, call) in best.iter_mut().zip(calls) {
+            *time = time.min(burst(call));
+        }
+    }
+    best
+}
