@@ -1,8 +1,5 @@
-pub mod Filled
+-- The calls of the operation, and what the core settles.
+pub mod Calls
 pub mod Settling
 -- What a C program is told.
 pub mod AnswerNumbers
--- Steps of a walk by hand.
-pub mod Zeros
-pub mod Literal
-pub mod Several

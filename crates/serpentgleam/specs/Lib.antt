@@ -1,1 +1,2 @@
+-- What a C program is told.
 pub mod MarginNumbers

@@ -1,41 +1,67 @@
-// The operations offered outside. `rt staticlib serpentgleam` writes the archive that a client links; the header is
-// include/serpentgleam.h.
-use lines::line_at;
+// The operations offered outside, as a C program calls them. `rt staticlib serpentgleam` writes the archive that a client
+// links; the header is include/serpentgleam.h.
+use account::values::refusal_number;
+use lent::write_entries;
 use pairing::line_count;
 use pairing::settle;
+use position::amount::amount_for_row;
+use position::answer::signed;
 use rules::Line;
 use rules::MarginAnswer;
-ghost use Prim.Native.Nat.{_*_, _≤_};
-ghost use lib.ListN.{drop, length};
-ghost use mathlib.Core.List.{_++_};
+ghost use lib.ListN.{length};
 ghost use mathlib.Core.Path.{_≡_};
-ghost use Rattle.lines.specs.LineNumbers.{linesFrom};
 ghost use Rattle.rules.specs.Lines.{listAfter, marginAnswer};
+ghost use Rattle.rules.specs.OnePosition.{amountAnswer, signedAnswer};
+ghost use Rattle.serpentgleam.specs.MarginNumbers.{marginNumbers};
 
-pub mod from_c;
-pub mod position_amount;
+// A file's margin as numbers, the header's `serpentgleam_result`: 0, 0, the line count and the total in centavos; or the
+// refusal's number, its row, 0 and 0.
+#[repr(C)]
+pub struct Result {
+    pub refusal: u64,
+    pub row: u64,
+    pub lines: u64,
+    pub total: u64,
+}
 
-// Writes the first n lines of the numbers, and leaves the entries after them.
-fn put_lines(lines: &mut [Line], n: usize, numbers: &[u64])
-    requires { ⌜ (n ≤ length (now lines)) × (5 * n ≤ length (now numbers)) ⌝ }
-    ensures { λ _. ⌜ now (lines .exit) ≡ linesFrom (now (numbers .entry)) n ++ drop n (now (lines .entry)) ⌝ }
+// The numbers of an answer.
+fn numbers_of(answer: MarginAnswer) -> Result
+    ensures { λ r. ⌜ r ≡ marginNumbers answer ⌝ }
 {
-    let mut i: usize = 0;
-    while i < n {
-        let line = line_at(numbers, i);
-        lines[i] = line;
-        i += 1;
+    match answer {
+        MarginAnswer::Total(n, total) => Result {
+            refusal: 0,
+            row: 0,
+            lines: n as u64,
+            total: total,
+        },
+        MarginAnswer::NoTotal(why, row) => Result {
+            refusal: refusal_number(why) as u64,
+            row: row as u64,
+            lines: 0,
+            total: 0,
+        },
     }
 }
 
 // A file's margin, and its lines in the caller's list.
-pub fn margin(file: &[u8], lines: &mut [Line]) -> MarginAnswer
-    ensures answer { λ r. ⌜ r ≡ marginAnswer (now (file .entry)) (length (now (lines .entry))) ⌝ }
+#[no_mangle]
+pub extern "C" fn serpentgleam_margin(file: &[u8], lines: &mut [Line]) -> Result
+    ensures numbers { λ r. ⌜ r ≡ marginNumbers (marginAnswer (now (file .entry)) (length (now (lines .entry)))) ⌝ }
     ensures list { λ _. ⌜ now (lines .exit) ≡ listAfter (now (file .entry)) (now (lines .entry)) ⌝ }
 {
     let mut numbers = [0u64; 1280];
     let answer = settle(file, lines.len(), &mut numbers);
     let n = line_count(answer);
-    put_lines(lines, n, &numbers);
-    answer
+    write_entries(lines, 0, n, &numbers);
+    numbers_of(answer)
+}
+
+// The amount in centavos of position row `row` of the file, or minus document 01's refusal number. Any bytes and any
+// row may be handed over.
+#[no_mangle]
+pub extern "C" fn serpentgleam_position_amount(file: &[u8], row: u64) -> i64
+    ensures { λ r. ⌜ r ≡ signedAnswer (amountAnswer (now (file .entry)) row) ⌝ }
+{
+    signed(amount_for_row(file, row))
 }

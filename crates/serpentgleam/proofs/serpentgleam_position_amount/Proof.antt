@@ -1,6 +1,7 @@
+-- `serpentgleam_position_amount` meets its contract: the signed amount is the definition's. Assumes nothing.
 use Rattle.rules.specs.OnePosition.{signedAnswer}
-use Rattle.serpentgleam.proofs.position_amount.serpentgleam_position_amount.Statement.{statement}
-use Rattle.serpentgleam.proofs.position_amount.serpentgleam_position_amount.Tie as tie
+use Rattle.serpentgleam.proofs.serpentgleam_position_amount.Statement.{statement}
+use Rattle.serpentgleam.proofs.serpentgleam_position_amount.Tie as tie
 use borrow.Author.Needs.{needs}
 use mathlib.Core.Path.{_∙_, ap}
 use mir.Facts.{toZ-ofZ}

@@ -1,11 +1,9 @@
+-- `numbers_of` meets its contract: its numbers are the definition's, case by case. Assumes nothing.
 use mathlib.Core.Path.{ap, sym}
 use borrow.Author.Needs.{needs}
 use Rattle.serpentgleam.specs.MarginNumbers.{marginNumbers}
-use Rattle.serpentgleam.proofs.from_c.numbers_of.Statement.{statement}
-use Rattle.serpentgleam.proofs.from_c.numbers_of.Tie as tie
-use Rattle.serpentgleam.proofs.from_c.numbers_of.Reads as reads
-use Rattle.serpentgleam.proofs.from_c.numbers_of.Lts as lts
-use Rattle.account.proofs.values.refusal_number.Reads as refusal-number-reads
+use Rattle.serpentgleam.proofs.numbers_of.Statement.{statement}
+use Rattle.serpentgleam.proofs.numbers_of.Tie as tie
 
 enum-known-answer : tie.Need-enum-known-answer
 enum-known-answer c = search needs

@@ -1,0 +1,101 @@
+-- The calls that operations make, each as one step. The walk of an operation keeps [lines; its token; the numbers; file's
+-- token; file] before its locals, before and after each call: a step lends what the callee takes and has it back.
+-- Assumes `Given`.
+--     calls-settle     `settle`, to which the numbers are lent. The operands are looked up where they stand before the step
+--     calls-count      `line_count`. Here and in the next the operand is looked up one entry further
+--     calls-numbers    `numbers_of`
+-- `write_entries` is in crate `lent` (`WriteCall.antt`).
+use Rattle.lent.proofs.Walk.{_≡_, refl, ℕ, _<_, _^_, [], _∷_, List, length, URA, fullShare, named, w64, Val, vint, SProp, ent, id⊢, emp, Lft, Share, GName, Fml, ftrue, flft, flent, Memory, Routine, Heap, Env, Calls, Loops, Atoms, Fun, Ends, lands, Given, Item, runs, ‵, raw, _⊛_, ⋆, _$_, _∵_, !, qed, move, use1, split, join, rewrite, fsplit, fjoin, frame, done, drop, use3, feqL, Seq, FmC, Is, uint-makes, usize, u64, u8, RefT, sliceVal, MutSlice, ShrSlice, shr-slice-copy, Held, row, owned, nothing, tripleOf, Contract, Triple, calls-at, lasts, says}
+use mir.Syntax.{Place, Opd as Operand, Body, seq, call}
+use types.Run.{Opds}
+use denote.Enum.Laws as EL
+use Rattle.lines.specs.LineNumbers.{lineCount}
+use Rattle.pairing.specs.Settled.{Settled}
+use Rattle.rules.specs.declared.MarginAnswer.{MarginAnswer}
+use Rattle.serpentgleam.specs.MarginNumbers.{marginNumbers}
+use Rattle.serpentgleam.specs.declared.Result.{Result}
+use Rattle.lent.proofs.Calling.{calls-plain, returned}
+use Rattle.lent.proofs.Lending.{lends-row, row-back}
+use Rattle.lent.proofs.Zeros.{array, array-room, array-slice}
+use Rattle.rules.proofs.MarginAnswer as E
+use Rattle.rules.proofs.MarginAnswer.Laws as E′
+use Rattle.serpentgleam.proofs.Result as N
+use Rattle.pairing.proofs.settle as settle
+use Rattle.pairing.proofs.settle.Symbol.{name as #pairing·settle}
+use Rattle.pairing.proofs.line_count as line-count
+use Rattle.pairing.proofs.line_count.Symbol.{name as #pairing·line-count}
+use Rattle.serpentgleam.proofs.numbers_of as numbers-of
+use Rattle.serpentgleam.proofs.numbers_of.Symbol.{name as #serpentgleam·numbers-of}
+
+-- The contracts.
+module _ {M : Type 1} (𝓤 : URA M) (H : Heap 𝓤) (A : Atoms 𝓤) (mem : Memory → SProp 𝓤) (run : Routine → Fun 𝓤) where
+  abbrev pub Settle : Contract 𝓤
+  Settle = tripleOf 𝓤 H A settle.signature (settle.spec 𝓤 H A mem run)
+
+  abbrev pub LineCount : Contract 𝓤
+  LineCount = tripleOf 𝓤 H A line-count.signature (line-count.spec 𝓤 H A mem run)
+
+  abbrev pub NumbersOf : Contract 𝓤
+  NumbersOf = tripleOf 𝓤 H A numbers-of.signature (numbers-of.spec 𝓤 H A mem run)
+
+-- `line_count` and `numbers_of` of an answer r with the machine value w.
+module _ {M : Type 1} (𝓤 : URA M) (H : Heap 𝓤) (A : Atoms 𝓤) (W : Given 𝓤 H A) (mem : Memory → SProp 𝓤) (run : Routine → Fun 𝓤) (r : MarginAnswer) (w : Val) (is : Is E.the-row r (w ∷ [])) where
+  abbrev to-count : LineCount 𝓤 H A mem run .Ghost
+  to-count = ((tt, tt, tt, (r, tt), (w ∷ [], tt)), tt)
+
+  goes-count : ent 𝓤 (emp 𝓤) (LineCount 𝓤 H A mem run .pre to-count)
+  goes-count = qed W [] ∵ nothing ! $ owned ! E.the-row (Is E.the-row) (EL.makes E.the-type E′.the-plain 𝓤 H A) r (w ∷ []) is $ fjoin ! $ nothing ! $ join ! $ frame ! $ done !
+
+  abbrev to-numbers : NumbersOf 𝓤 H A mem run .Ghost
+  to-numbers = ((tt, tt, tt, (r, tt), (w ∷ [], tt)), tt)
+
+  goes-numbers : ent 𝓤 (emp 𝓤) (NumbersOf 𝓤 H A mem run .pre to-numbers)
+  goes-numbers = qed W [] ∵ nothing ! $ owned ! E.the-row (Is E.the-row) (EL.makes E.the-type E′.the-plain 𝓤 H A) r (w ∷ []) is $ fjoin ! $ nothing ! $ join ! $ frame ! $ done !
+
+  module _ {K : Type 0} {Γ : List (Item 𝓤)} {En : Env 𝓤 H} {C : Calls 𝓤 H} {Λ : Loops 𝓤 H} {q : Ends 𝓤 H} {xs : List Operand} {d : Place} {rest : Body} where
+    pub calls-count : K → FmC 𝓤 H (W .laws) C → Triple 𝓤 (C #pairing·line-count) (LineCount 𝓤 H A mem run) → Opds K W (raw (LineCount 𝓤 H A mem run .pre to-count) ∷ Γ) En xs (w ∷ [])
+        → ((v : Val) (n : ℕ) → n ≡ lineCount r → Is usize n (v ∷ []) → Seq K W Γ (lands C Λ En d v rest q)) → Seq K W Γ (runs C Λ En (seq (call #pairing·line-count xs d) rest) q)
+    calls-count t fm known = calls-plain t fm (LineCount 𝓤 H A mem run) known to-count goes-count usize (lasts line-count.ended tt (r, tt)) (λ (n : ℕ). n ≡ lineCount r) (λ _. id⊢ 𝓤 _)
+
+    pub calls-numbers : K → FmC 𝓤 H (W .laws) C → Triple 𝓤 (C #serpentgleam·numbers-of) (NumbersOf 𝓤 H A mem run) → Opds K W (raw (NumbersOf 𝓤 H A mem run .pre to-numbers) ∷ Γ) En xs (w ∷ [])
+        → ((v : Val) (m : Result) → m ≡ marginNumbers r → Is N.the-row m (v ∷ []) → Seq K W Γ (lands C Λ En d v rest q)) → Seq K W Γ (runs C Λ En (seq (call #serpentgleam·numbers-of xs d) rest) q)
+    calls-numbers t fm known = calls-plain t fm (NumbersOf 𝓤 H A mem run) known to-numbers goes-numbers N.the-row (lasts numbers-of.ended tt (r, tt)) (λ (m : Result). m ≡ marginNumbers r) (λ _. id⊢ 𝓤 _)
+
+-- `settle` of the file f, for a list of `room` entries, with the numbers in the block l.
+module _ {M : Type 1} (𝓤 : URA M) (H : Heap 𝓤) (A : Atoms 𝓤) (W : Given 𝓤 H A) (mem : Memory → SProp 𝓤) (run : Routine → Fun 𝓤) (κ : Lft) (p : Share) (f : RefT (List ℕ)) (room : ℕ) (room-fits : room < 2 ^ 64) (l : ℕ) (numbers : List ℕ) (long : length numbers ≡ 1280) where
+  abbrev s : Val
+  s = sliceVal (f .ptr) (length (f .now))
+
+  abbrev File : Fml
+  File = ShrSlice (named 0) κ u8 .own f (s ∷ [])
+
+  abbrev Numbers : ℕ → GName → Fml
+  Numbers ν δ = MutSlice (named 1) (ν ∷ []) u64 .own (array l δ numbers) (array-slice l ∷ [])
+
+  abbrev args : GName → RefT (List ℕ) × (ℕ × (RefT (List ℕ) × Unit {0}))
+  args δ = (f, (room, (array l δ numbers, tt)))
+
+  abbrev to-settle : ℕ → GName → Settle 𝓤 H A mem run .Ghost
+  to-settle ν δ = (((κ, (ν ∷ [], tt)), (p, (fullShare, tt)), tt, args δ, (s ∷ [], (vint w64 room ∷ [], (array-slice l ∷ [], tt)))), tt)
+
+  goes-settle : (ν : ℕ) (δ : GName) → ent 𝓤 (⋆ 𝓤 H A (‵ (flft κ p) ∷ ‵ (flft (ν ∷ []) fullShare) ∷ (‵ (Numbers ν δ) ⊛ ‵ File) ∷ [])) (Settle 𝓤 H A mem run .pre (to-settle ν δ))
+  goes-settle ν δ =
+      qed W (‵ (flft κ p) ∷ ‵ (flft (ν ∷ []) fullShare) ∷ (‵ (Numbers ν δ) ⊛ ‵ File) ∷ []) ∵ says ! long $ nothing ! $ move ! (2 ∷ 0 ∷ []) $ join ! $ move ! (1 ∷ 0 ∷ []) $ join ! $ frame ! $ split ! $
+      nothing ! $ move ! (1 ∷ 0 ∷ []) $ fjoin ! $ owned ! usize (Is usize) (uint-makes 𝓤 H A W w64) room _ (refl, room-fits) $ fjoin ! $ move ! (1 ∷ 0 ∷ []) $ fjoin ! $ done !
+
+  module _ {K : Type 0} {i j : Item 𝓤} {Γ : List (Item 𝓤)} {En : Env 𝓤 H} {C : Calls 𝓤 H} {Λ : Loops 𝓤 H} {q : Ends 𝓤 H} {xs : List Operand} {d : Place} {rest : Body} where
+    pub calls-settle : K → FmC 𝓤 H (W .laws) C → Triple 𝓤 (C #pairing·settle) (Settle 𝓤 H A mem run)
+        → ((ν : ℕ) (δ : GName) → Opds K W (raw (Settle 𝓤 H A mem run .pre (to-settle ν δ)) ∷ ‵ (flent (ν ∷ []) (Held u64 (length numbers) l 0 δ)) ∷ i ∷ j ∷ ‵ File ∷ Γ) En xs (Settle 𝓤 H A mem run .args (to-settle ν δ)))
+        → ((w : Val) (r : MarginAnswer) (vs : List ℕ) → Settled (f .now) room vs r → Is E.the-row r (w ∷ []) → Seq K W (i ∷ j ∷ ‵ (row u64 fullShare vs l 0) ∷ ‵ (flft κ p) ∷ ‵ File ∷ Γ) (lands C Λ En d w rest q))
+        → Seq K W (i ∷ j ∷ ‵ (row u64 fullShare numbers l 0) ∷ ‵ (flft κ p) ∷ ‵ File ∷ Γ) (runs C Λ En (seq (call #pairing·settle xs d) rest) q)
+    calls-settle t fm known os k =
+        move t (4 ∷ []) $ use1 W (‵ File ⊛ ‵ File) (shr-slice-copy 𝓤 H A W (named 0) κ u8 .twice f (s ∷ [])) $ split t $ move t (4 ∷ []) $
+        lends-row t tt u64 (named 1) numbers l 0 (array-room (length numbers) long) (λ ν δ. rewrite t 0 (λ (m : ℕ). ‵ (MutSlice (named 1) (ν ∷ []) u64 .own (array l δ numbers) (sliceVal (l, 0) m ∷ []))) long refl $
+        -- [the numbers, lent; what brings them back; the token ν; file; file; i; j; file's token]
+        move t (0 ∷ 3 ∷ []) $ join t $ move t (6 ∷ 2 ∷ 0 ∷ 1 ∷ 4 ∷ 5 ∷ []) $ use3 W (raw (Settle 𝓤 H A mem run .pre (to-settle ν δ))) (goes-settle ν δ) $
+        calls-at t fm (Settle 𝓤 H A mem run) known (to-settle ν δ) (os ν δ) (λ w.
+        returned t tt _ E.the-row w (‵ (flft κ p) ⊛ (‵ (flft (ν ∷ []) fullShare) ⊛ ‵ ftrue)) (lasts settle.ended (κ, (ν ∷ [], tt)) (args δ)) (λ (r : MarginAnswer) (vs : Unit {0} × (Unit {0} × (List ℕ × Unit {0}))). Settled (f .now) room (vs .1 .1 .0) r) (id⊢ 𝓤 _) (λ r vs e is.
+        -- [the last numbers; the tokens; the result; what brings them back; i; j; file]
+        fsplit t $ drop t $ fsplit t $ drop t $ fsplit t $ fsplit t $ move t (1 ∷ []) $ feqL t (λ len. move t (2 ∷ []) $ split t $ move t (1 ∷ []) $ split t $
+        -- [the token ν; true; file's token; the last numbers; true; the result; what brings them back; i; j; file]
+        move t (0 ∷ 6 ∷ 3 ∷ []) $ row-back t tt u64 ν δ (length numbers) (vs .1 .1 .0) l 0 $ move t (1 ∷ 3 ∷ 4 ∷ []) $ drop t $ drop t $ drop t $ move t (2 ∷ 3 ∷ []) $ k w r (vs .1 .1 .0) e is))))
