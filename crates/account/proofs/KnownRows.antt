@@ -13,12 +13,15 @@ use Rattle.rules.specs.declared.Layout.{Layout}
 use Rattle.account.specs.Known.{Known}
 
 pub known : (b : List ℕ) (l : Layout) → fileRead b ≡ Accepted l → Known b l
-known b l e = let h = read-within b l e in record { within = h .0; layout-is = h .1 }
+known b l e =
+    let h = read-within b l e in
+    record {
+      within = h .0;
+      layout-is = h .1;
+      placed = subst (Placed b) (sym (h .1)) (TrailerLimits.placed b (h .0 .trailer));
+    }
 
 module _ (b : List ℕ) (l : Layout) (k : Known b l) where
-  pub placed : Placed b l
-  placed = subst (Placed b) (sym (k .layout-is)) (TrailerLimits.placed b (k .within .trailer))
-
   pub series-within : (i : ℕ) → i < l .series → SeriesWithin (seriesRow b l i)
   unfolding layout
   series-within =

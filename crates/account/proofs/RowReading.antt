@@ -34,14 +34,14 @@ terms-series s r e =
 -- Row i of a file, read by the code as `row`.
 module _ (b : List ℕ) (l : Layout) (i : ℕ) (row : PositionRow) (is : row ≡ positionRow b l i) (t : Bool) (tested : t ≡ wrongTerms (l .series) row) where
   pub terms-stop : t ≡ true → Unreadable PositionTerms ≡ positionRead b l i
-  unfolding positionRead positionRowFault
+  unfolding positionRead positionRowFault matchedFault
   terms-stop h =
       ap (λ (f : Fault). readAs f (positionOf (positionRow b l i)))
       (stops t (wrongTerms (l .series) (positionRow b l i)) PositionTerms (matchedFault (seriesRow b l (positionRow b l i .series)) (positionRow b l i)) (tested ∙ ap (wrongTerms (l .series)) is) h)
 
   module _ (passed : t ≡ false) (k : SeriesRow) (series : k ≡ seriesRow b l (row .series)) (f : Fault) (found : f ≡ matchedFault k row) where
     same-fault : f ≡ positionFault b l i
-    unfolding positionRowFault
+    unfolding positionRowFault matchedFault
     same-fault =
         passes t (wrongTerms (l .series) (positionRow b l i)) PositionTerms (matchedFault (seriesRow b l (positionRow b l i .series)) (positionRow b l i)) f (tested ∙ ap (wrongTerms (l .series)) is) passed
         (found ∙ ap (λ (x : SeriesRow). matchedFault x row) series ∙ ap (λ (r : PositionRow). matchedFault (seriesRow b l (r .series)) r) is)

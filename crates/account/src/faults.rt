@@ -1,14 +1,14 @@
 // The checks of the trailer and of a row, in document 01's order: the first fault, or none.
+use crate::checks::wrong_barrier_price;
+use crate::checks::wrong_barrier_side;
+use crate::checks::wrong_limiter;
+use crate::checks::wrong_range;
+use crate::checks::wrong_series_range;
+use crate::checks::wrong_series_type;
 use crate::rows::distance_back;
 use crate::rows::position_count;
 use crate::rows::series_count;
 use crate::rows::trailer_spare;
-use crate::tests::wrong_barrier_price;
-use crate::tests::wrong_barrier_side;
-use crate::tests::wrong_limiter;
-use crate::tests::wrong_range;
-use crate::tests::wrong_series_range;
-use crate::tests::wrong_series_type;
 use rules::Fault;
 use rules::PositionRow;
 use rules::Refusal;

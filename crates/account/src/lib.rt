@@ -1,8 +1,8 @@
 // The account file: bytes to rows, or the refusal that document 01 gives.
 pub mod bytes;
+pub mod checks;
 pub mod faults;
 pub mod lookup;
 pub mod reader;
 pub mod rows;
-pub mod tests;
 pub mod values;

@@ -1,11 +1,11 @@
 // The reading of a file: accepted with where its rows stand, or refused with the row.
+use crate::checks::wrong_terms;
 use crate::faults::matched_fault;
 use crate::faults::series_row_fault;
 use crate::faults::trailer_fault;
 use crate::rows::layout_of;
 use crate::rows::position_row;
 use crate::rows::series_row;
-use crate::tests::wrong_terms;
 use crate::values::position_of;
 use rules::Fault;
 use rules::FileRead;

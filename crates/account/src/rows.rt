@@ -55,6 +55,7 @@ pub fn layout_of(file: &[u8]) -> Layout
         positions,
         seriesStart: start,
         positionsStart: start + 24 * series,
+        width: 32,
     }
 }
 
@@ -105,5 +106,5 @@ pub fn position_row(file: &[u8], l: Layout, i: usize) -> PositionRow
     requires { ⌜ Placed (now file) l × (i < l .positions) ⌝ }
     ensures { λ r. ⌜ r ≡ positionRow (now (file .entry)) l i ⌝ }
 {
-    position_row_from(file, l.positionsStart + 32 * i)
+    position_row_from(file, l.positionsStart + l.width * i)
 }

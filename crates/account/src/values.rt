@@ -1,5 +1,6 @@
 // What a row means.
 use rules::Barrier;
+use rules::Flags;
 use rules::Limiter;
 use rules::OptionType;
 use rules::Position;
@@ -8,8 +9,9 @@ use rules::Refusal;
 use rules::Series;
 use rules::SeriesRow;
 use rules::Side;
+use rules::Terms;
 ghost use mathlib.Core.Path.{_≡_};
-ghost use Rattle.rules.specs.File.{barrierOf, limiterOf, optionOf, positionOf, seriesOf, sideOf};
+ghost use Rattle.rules.specs.File.{barrierOf, flagsOf, limiterOf, optionOf, positionOf, seriesOf, sideOf};
 ghost use Rattle.rules.specs.Refusals.{number};
 
 pub fn option_of(n: u32) -> OptionType
@@ -42,13 +44,25 @@ pub fn barrier_of(kind: u32, price: u32) -> Barrier
     }
 }
 
-pub fn limiter_of(flags: u32, pb: u32) -> Limiter
-    ensures { λ r. ⌜ r ≡ limiterOf flags pb ⌝ }
+// The flags, each one bit.
+pub fn flags_of(n: u32) -> Flags
+    ensures { λ r. ⌜ r ≡ flagsOf n ⌝ }
 {
-    match flags / 2 % 2 {
-        1 => Limiter::At(pb),
-        _ => Limiter::NoLimiter,
+    Flags {
+        knockedIn: n % 2 == 1,
+        limited: n / 2 % 2 == 1,
+        european: n / 4 % 2 == 1,
+        beforeAnnex: n / 8 % 2 == 1,
     }
+}
+
+pub fn limiter_of(limited: bool, pb: u32) -> Limiter
+    ensures { λ r. ⌜ r ≡ limiterOf limited pb ⌝ }
+{
+    if limited {
+        return Limiter::At(pb);
+    }
+    Limiter::NoLimiter
 }
 
 pub fn series_of(r: SeriesRow) -> Series
@@ -67,17 +81,19 @@ pub fn series_of(r: SeriesRow) -> Series
 pub fn position_of(r: PositionRow) -> Position
     ensures { λ p. ⌜ p ≡ positionOf r ⌝ }
 {
+    let flags = flags_of(r.flags);
+    let terms = Terms {
+        pe: r.pe,
+        limiter: limiter_of(flags.limited, r.pb),
+        barrier: barrier_of(r.kind, r.price),
+        reb: r.reb,
+    };
     Position {
         series: r.series,
         side: side_of(r.side),
-        barrier: barrier_of(r.kind, r.price),
-        limiter: limiter_of(r.flags, r.pb),
-        knockedIn: r.flags % 2 == 1,
-        european: r.flags / 4 % 2 == 1,
-        beforeAnnex: r.flags / 8 % 2 == 1,
+        terms,
+        flags,
         q: r.q,
-        pe: r.pe,
-        reb: r.reb,
         premium: r.premium,
     }
 }

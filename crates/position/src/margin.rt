@@ -13,6 +13,7 @@ use numbers::product;
 use rules::Barrier;
 use rules::Position;
 use rules::Series;
+use rules::Terms;
 ghost use Prim.Native.Nat.{max};
 ghost use mathlib.Core.Path.{_≡_};
 ghost use Rattle.rules.proofs.Mirror.{bare, most, rule, worst};
@@ -21,93 +22,93 @@ ghost use Rattle.rules.specs.Quantities.{minimum};
 ghost use Rattle.rules.specs.declared.Barrier.the-variants.{DownIn, DownOut, UpIn, UpOut};
 
 // max(MM; REB)
-fn or_rebate(s: Series, p: Position) -> u64
-    ensures { λ r. ⌜ r ≡ max (minimum s) (rebate p) ⌝ }
+fn or_rebate(s: Series, t: Terms) -> u64
+    ensures { λ r. ⌜ r ≡ max (minimum s) (rebate t) ⌝ }
 {
-    larger(minimum_margin(s), rebate_of(p))
+    larger(minimum_margin(s), rebate_of(t))
 }
 
 // max(MM; payoff) over the prices from low to high.
-fn bare_charge(s: Series, p: Position, low: u64, high: u64) -> u64
-    ensures { λ r. ⌜ r ≡ bare (s .option) s p (worst (s .option) low high) ⌝ }
+fn bare_charge(s: Series, t: Terms, low: u64, high: u64) -> u64
+    ensures { λ r. ⌜ r ≡ bare (s .option) s t (worst (s .option) low high) ⌝ }
 {
     let option = s.option;
     larger(
         minimum_margin(s),
-        payoff_at(s, p, worst_price(option, low, high)),
+        payoff_at(s, t, worst_price(option, low, high)),
     )
 }
 
 // max(MM; REB; payoff) over the prices from low to high.
-fn most_charge(s: Series, p: Position, low: u64, high: u64) -> u64
-    ensures { λ r. ⌜ r ≡ most (s .option) s p (worst (s .option) low high) ⌝ }
+fn most_charge(s: Series, t: Terms, low: u64, high: u64) -> u64
+    ensures { λ r. ⌜ r ≡ most (s .option) s t (worst (s .option) low high) ⌝ }
 {
     let option = s.option;
     larger(
         minimum_margin(s),
         larger(
-            rebate_of(p),
-            payoff_at(s, p, worst_price(option, low, high)),
+            rebate_of(t),
+            payoff_at(s, t, worst_price(option, low, high)),
         ),
     )
 }
 
 // Up-and-in at b: out of reach, or the low price is b × fb from there.
-fn up_in(b: u32, s: Series, p: Position) -> u64
-    ensures { λ r. ⌜ r ≡ rule (s .option) (UpIn b) s p ⌝ }
+fn up_in(b: u32, s: Series, t: Terms) -> u64
+    ensures { λ r. ⌜ r ≡ rule (s .option) (UpIn b) s t ⌝ }
 {
     let high = high_price(s);
     if high < fine_units(b) {
-        return or_rebate(s, p);
+        return or_rebate(s, t);
     }
-    most_charge(s, p, product(b, s.fb), high)
+    most_charge(s, t, product(b, s.fb), high)
 }
 
 // Down-and-in at b: out of reach, or the high price is b × fa from there.
-fn down_in(b: u32, s: Series, p: Position) -> u64
-    ensures { λ r. ⌜ r ≡ rule (s .option) (DownIn b) s p ⌝ }
+fn down_in(b: u32, s: Series, t: Terms) -> u64
+    ensures { λ r. ⌜ r ≡ rule (s .option) (DownIn b) s t ⌝ }
 {
     let low = low_price(s);
     if fine_units(b) < low {
-        return or_rebate(s, p);
+        return or_rebate(s, t);
     }
-    most_charge(s, p, low, product(b, s.fa))
+    most_charge(s, t, low, product(b, s.fa))
 }
 
 // Up-and-out at b: out of reach, or no price above b is paid on.
-fn up_out(b: u32, s: Series, p: Position) -> u64
-    ensures { λ r. ⌜ r ≡ rule (s .option) (UpOut b) s p ⌝ }
+fn up_out(b: u32, s: Series, t: Terms) -> u64
+    ensures { λ r. ⌜ r ≡ rule (s .option) (UpOut b) s t ⌝ }
 {
     let high = high_price(s);
     let barrier = fine_units(b);
     if high < barrier {
-        return bare_charge(s, p, low_price(s), high);
+        return bare_charge(s, t, low_price(s), high);
     }
-    most_charge(s, p, low_price(s), barrier)
+    most_charge(s, t, low_price(s), barrier)
 }
 
 // Down-and-out at b: out of reach, or no price below b is paid on.
-fn down_out(b: u32, s: Series, p: Position) -> u64
-    ensures { λ r. ⌜ r ≡ rule (s .option) (DownOut b) s p ⌝ }
+fn down_out(b: u32, s: Series, t: Terms) -> u64
+    ensures { λ r. ⌜ r ≡ rule (s .option) (DownOut b) s t ⌝ }
 {
     let low = low_price(s);
     let barrier = fine_units(b);
     if barrier < low {
-        return bare_charge(s, p, low, high_price(s));
+        return bare_charge(s, t, low, high_price(s));
     }
-    most_charge(s, p, barrier, high_price(s))
+    most_charge(s, t, barrier, high_price(s))
 }
 
 // The rule of a barrier, of a normalised position.
-fn unit_by(barrier: Barrier, s: Series, p: Position) -> u64
-    ensures { λ r. ⌜ r ≡ rule (s .option) barrier s p ⌝ }
+fn unit_by(barrier: Barrier, s: Series, t: Terms) -> u64
+    ensures { λ r. ⌜ r ≡ rule (s .option) barrier s t ⌝ }
 {
     match barrier {
-        Barrier::NoBarrier => most_charge(s, p, low_price(s), high_price(s)),
-        Barrier::UpIn(b) => up_in(b, s, p),
-        Barrier::DownIn(b) => down_in(b, s, p),
-        Barrier::UpOut(b) => up_out(b, s, p),
-        Barrier::DownOut(b) => down_out(b, s, p),
+        Barrier::NoBarrier => most_charge(s, t, low_price(s), high_price(s)),
+        Barrier::UpIn(b) => up_in(b, s, t),
+        Barrier::DownIn(b) => down_in(b, s, t),
+        Barrier::UpOut(b) => up_out(b, s, t),
+        Barrier::DownOut(b) => down_out(b, s, t),
     }
 }
 
@@ -115,7 +116,7 @@ fn unit_by(barrier: Barrier, s: Series, p: Position) -> u64
 pub fn unit_margin(s: Series, p: Position) -> u64
     ensures { λ r. ⌜ r ≡ unitMargin s p ⌝ }
 {
-    let n = normalised(p);
-    let barrier = n.barrier;
-    unit_by(barrier, s, n)
+    let t = normalised(p);
+    let barrier = t.barrier;
+    unit_by(barrier, s, t)
 }

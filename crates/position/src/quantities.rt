@@ -9,6 +9,7 @@ use rules::Limiter;
 use rules::OptionType;
 use rules::Position;
 use rules::Series;
+use rules::Terms;
 ghost use mathlib.Core.Path.{_≡_};
 ghost use Rattle.rules.proofs.Mirror.{charge, worst};
 ghost use Rattle.rules.specs.OnePosition.{callPayoff, limitOr, normal, putPayoff, rebate};
@@ -32,34 +33,28 @@ pub fn minimum_margin(s: Series) -> u64
     product(s.f3, s.pv)
 }
 
-// Flag 1 makes the position one without barrier and with REB 0.
-pub fn normalised(p: Position) -> Position
+// The terms in force: flag 1 makes the position one without barrier and with REB 0.
+pub fn normalised(p: Position) -> Terms
     ensures { λ r. ⌜ r ≡ normal p ⌝ }
 {
-    if p.knockedIn {
-        let side = p.side;
-        let limiter = p.limiter;
-        return Position {
-            series: p.series,
-            side,
-            barrier: Barrier::NoBarrier,
+    let terms = p.terms;
+    let flags = p.flags;
+    if flags.knockedIn {
+        let limiter = terms.limiter;
+        return Terms {
+            pe: terms.pe,
             limiter,
-            knockedIn: p.knockedIn,
-            european: p.european,
-            beforeAnnex: p.beforeAnnex,
-            q: p.q,
-            pe: p.pe,
+            barrier: Barrier::NoBarrier,
             reb: 0,
-            premium: p.premium,
         };
     }
-    p
+    terms
 }
 
-pub fn rebate_of(p: Position) -> u64
-    ensures { λ r. ⌜ r ≡ rebate p ⌝ }
+pub fn rebate_of(t: Terms) -> u64
+    ensures { λ r. ⌜ r ≡ rebate t ⌝ }
 {
-    fine_units(p.reb)
+    fine_units(t.reb)
 }
 
 // PB, or x where there is no limiter.
@@ -73,23 +68,23 @@ pub fn limit_or(limiter: Limiter, x: u64) -> u64
 }
 
 // C at the high price in force.
-fn call_payoff(s: Series, p: Position, high: u64) -> u64
-    ensures { λ r. ⌜ r ≡ callPayoff s p high ⌝ }
+fn call_payoff(s: Series, t: Terms, high: u64) -> u64
+    ensures { λ r. ⌜ r ≡ callPayoff s t high ⌝ }
 {
-    let limiter = p.limiter;
+    let limiter = t.limiter;
     less(
         smaller(limit_or(limiter, high_price(s)), high),
-        fine_units(p.pe),
+        fine_units(t.pe),
     )
 }
 
 // P at the low price in force.
-fn put_payoff(s: Series, p: Position, low: u64) -> u64
-    ensures { λ r. ⌜ r ≡ putPayoff s p low ⌝ }
+fn put_payoff(s: Series, t: Terms, low: u64) -> u64
+    ensures { λ r. ⌜ r ≡ putPayoff s t low ⌝ }
 {
-    let limiter = p.limiter;
+    let limiter = t.limiter;
     less(
-        fine_units(p.pe),
+        fine_units(t.pe),
         larger(limit_or(limiter, low_price(s)), low),
     )
 }
@@ -105,12 +100,12 @@ pub fn worst_price(option: OptionType, low: u64, high: u64) -> u64
 }
 
 // C or P where x is the high or low price in force.
-pub fn payoff_at(s: Series, p: Position, x: u64) -> u64
-    ensures { λ r. ⌜ r ≡ charge (s .option) s p x ⌝ }
+pub fn payoff_at(s: Series, t: Terms, x: u64) -> u64
+    ensures { λ r. ⌜ r ≡ charge (s .option) s t x ⌝ }
 {
     let option = s.option;
     match option {
-        OptionType::Call => call_payoff(s, p, x),
-        OptionType::Put => put_payoff(s, p, x),
+        OptionType::Call => call_payoff(s, t, x),
+        OptionType::Put => put_payoff(s, t, x),
     }
 }

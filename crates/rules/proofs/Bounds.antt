@@ -9,9 +9,9 @@ use native.Mathlib.Nat.{eq-zero-or-pos, mul-le-mul}
 use native.Mathlib.Omega.{arith}
 use Rattle.rules.proofs.Mirror.{bare, charge, mirror, most, rule}
 use Rattle.rules.proofs.Tests.{cond-case, ltb-case}
-use Rattle.rules.specs.File.{limiterFlag, limiterOf, positionOf, seriesOf}
+use Rattle.rules.specs.File.{flagsOf, limiterOf, positionOf, seriesOf, termsOf}
 use Rattle.rules.specs.Limits.{PositionWithin, SeriesWithin}
-use Rattle.rules.specs.OnePosition.{knockedIn, limitOr, rebate, unitBy, unitMargin}
+use Rattle.rules.specs.OnePosition.{afterFlag1, limitOr, rebate, unitBy, unitMargin}
 use Rattle.rules.specs.Quantities.{fine, high, low, minimum}
 use Rattle.rules.specs.declared.Barrier.{Barrier}
 use Rattle.rules.specs.declared.Barrier.the-variants.{NoBarrier, UpIn, DownIn, UpOut, DownOut}
@@ -19,13 +19,13 @@ use Rattle.rules.specs.declared.Limiter.{Limiter}
 use Rattle.rules.specs.declared.Limiter.the-variants.{NoLimiter, At}
 use Rattle.rules.specs.declared.OptionType.{OptionType}
 use Rattle.rules.specs.declared.OptionType.the-variants.{Call, Put}
-use Rattle.rules.specs.declared.Position.{Position}
 use Rattle.rules.specs.declared.PositionRow.{PositionRow}
 use Rattle.rules.specs.declared.Series.{Series}
 use Rattle.rules.specs.declared.SeriesRow.{SeriesRow}
+use Rattle.rules.specs.declared.Terms.{Terms}
 
 -- No unit margin is above n where MM, REB, PE and the limit in force of a call are not.
-module _ (n : ℕ) (s : Series) (p : Position) (mm : minimum s ≤ n) (reb : rebate p ≤ n) (pe : fine (p .pe) ≤ n) (pb : limitOr (p .limiter) (high s) ≤ n) where
+module _ (n : ℕ) (s : Series) (p : Terms) (mm : minimum s ≤ n) (reb : rebate p ≤ n) (pe : fine (p .pe) ≤ n) (pb : limitOr (p .limiter) (high s) ≤ n) where
   charge-most : (k : OptionType) (x : ℕ) → charge k s p x ≤ n
   charge-most Call x = omega arith
   charge-most Put x = omega arith
@@ -71,20 +71,20 @@ module _ {n : ℕ} {k : SeriesRow} {r : PositionRow} (s : SeriesWithin k) (w : P
       go (inr z) (inl o) = omega (arith, w .pb-call z o)
       go (inr z) (inr o) = omega (arith, w .pb-put z o, w .pe-most)
 
-  limit-most : limitOr (limiterOf (r .flags) (r .pb)) (high (seriesOf k)) ≤ 100_000_000_000_000
+  limit-most : limitOr (limiterOf (flagsOf (r .flags) .limited) (r .pb)) (high (seriesOf k)) ≤ 100_000_000_000_000
   limit-most =
-      cond-case (λ (m : Limiter). limitOr m (high (seriesOf k)) ≤ 100_000_000_000_000) (limiterFlag (r .flags)) (At (r .pb)) NoLimiter
+      cond-case (λ (m : Limiter). limitOr m (high (seriesOf k)) ≤ 100_000_000_000_000) (flagsOf (r .flags) .limited) (At (r .pb)) NoLimiter
       (λ _. omega (arith, pb-most)) (λ _. high-most)
 
   -- A unit margin is at most 10^14, H at the largest PV and fa.
   pub unit-most : unitMargin (seriesOf k) (positionOf r) ≤ 100_000_000_000_000
   unfolding unitMargin
-  unit-most = by-flag (positionOf r .knockedIn)
+  unit-most = by-flag (positionOf r .flags .knockedIn)
     where
-      by-flag : (t : Bool) → unitBy (seriesOf k .option) (knockedIn t (positionOf r) .barrier) (seriesOf k) (knockedIn t (positionOf r)) ≤ 100_000_000_000_000
+      by-flag : (t : Bool) → unitBy (seriesOf k .option) (afterFlag1 t (termsOf r) .barrier) (seriesOf k) (afterFlag1 t (termsOf r)) ≤ 100_000_000_000_000
       by-flag true =
           rw mirror
-          (rule-most 100_000_000_000_000 (seriesOf k) (knockedIn true (positionOf r)) (omega (arith, minimum-most)) (omega arith) (omega (arith, w .pe-most)) limit-most (seriesOf k .option) NoBarrier)
+          (rule-most 100_000_000_000_000 (seriesOf k) (afterFlag1 true (termsOf r)) (omega (arith, minimum-most)) (omega arith) (omega (arith, w .pe-most)) limit-most (seriesOf k .option) NoBarrier)
       by-flag false =
           rw mirror
-          (rule-most 100_000_000_000_000 (seriesOf k) (positionOf r) (omega (arith, minimum-most)) (omega (arith, w .reb-most)) (omega (arith, w .pe-most)) limit-most (seriesOf k .option) (positionOf r .barrier))
+          (rule-most 100_000_000_000_000 (seriesOf k) (termsOf r) (omega (arith, minimum-most)) (omega (arith, w .reb-most)) (omega (arith, w .pe-most)) limit-most (seriesOf k .option) (termsOf r .barrier))

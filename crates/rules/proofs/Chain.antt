@@ -1,12 +1,13 @@
--- The chain of tests: what a `refuse` gives, by how its test came out, and what a clean chain tells.
+-- The checks one after the other: what a `refuse` gives, by how its test came out, and what it tells that none fails.
 -- Assumes nothing.
 use Prim.Native.Nat.{ℕ, _≤_}
 use mathlib.Core.Bool.{Bool, true, false, not, _||_, true≢false}
+use mathlib.Core.List.{List, [], _∷_}
 use mathlib.Core.Path.{_≡_, refl, sym, _∙_, ap}
 use borrow.Author.Tests.{eq-eqb, eqb-true, le-ltb, ltb-false, not-false}
 use lib.Dec.{eqb, ltb}
 use Rattle.rules.proofs.Tests.{both-fail, neither}
-use Rattle.rules.specs.Refusals.{nonzero, outside, refuse}
+use Rattle.rules.specs.Refusals.{Check, firstFault, nonzero, outside, refuse}
 use Rattle.rules.specs.declared.Fault.{Fault}
 use Rattle.rules.specs.declared.Fault.the-variants.{Clean, Found}
 use Rattle.rules.specs.declared.Refusal.{Refusal}
@@ -22,16 +23,23 @@ unfolding refuse
 passes r true w f x e h q = absurd (true≢false (sym e ∙ h))
 passes r false w f x e h q = q
 
--- A chain is clean exactly if its first test fails and the rest is clean.
-pub passed : (t : Bool) (w : Refusal) (f : Fault) → refuse t w f ≡ Clean → (t ≡ false) × (f ≡ Clean)
-unfolding refuse
-passed true w f e = let z : _≡_ {A = Bool} true false = cc in absurd (true≢false z)
-passed false w f e = (refl, e)
+-- No test of the checks holds.
+abbrev pub AllPass : List Check → Type 0
+AllPass [] = Unit {0}
+AllPass ((test, w) ∷ later) = (test ≡ false) × AllPass later
 
-pub clean : (t : Bool) (w : Refusal) (f : Fault) → t ≡ false → f ≡ Clean → refuse t w f ≡ Clean
+-- There is no fault exactly where no test holds.
+pub all-pass : (l : List Check) → firstFault l ≡ Clean → AllPass l
 unfolding refuse
-clean true w f h e = absurd (true≢false h)
-clean false w f h e = e
+all-pass [] e = tt
+all-pass ((true, w) ∷ later) e = let z : _≡_ {A = Bool} true false = cc in absurd (true≢false z)
+all-pass ((false, w) ∷ later) e = (refl, all-pass later e)
+
+pub all-clean : (l : List Check) → AllPass l → firstFault l ≡ Clean
+unfolding refuse
+all-clean [] h = refl
+all-clean ((true, w) ∷ later) h = absurd (true≢false (h .0))
+all-clean ((false, w) ∷ later) h = all-clean later (h .1)
 
 -- Facts from tests that fail.
 pub inside : (least most x : ℕ) → outside least most x ≡ false → (least ≤ x) × (x ≤ most)

@@ -129,7 +129,7 @@ pub file-order :
     × (meaning (file 3000 1 (positionBytes 0 0 1 0 ++ positionBytes 0 0 1 0)) ≡ refused 6 1)
     × (meaning (file 3000 0 (positionBytes 0 0 1 0 ++ positionBytes 0 1 1 0)) ≡ refused 7 1)
     -- Accepted, after a cover sheet of three bytes that is not read
-    × (fileRead (255 ∷ 1 ∷ 2 ∷ file 3000 0 (positionBytes 1 0 1 3001 ++ positionBytes 2 0 1 2999)) ≡ Accepted (record { series = 2; positions = 2; seriesStart = 3; positionsStart = 51 }))
+    × (fileRead (255 ∷ 1 ∷ 2 ∷ file 3000 0 (positionBytes 1 0 1 3001 ++ positionBytes 2 0 1 2999)) ≡ Accepted (record { series = 2; positions = 2; seriesStart = 3; positionsStart = 51; width = 32 }))
 unfolding meaning fileRead layout seriesRow positionRow seriesRows positionRows rows trailerFault seriesRowFault positionRowFault matchedFault refuse
 file-order = (refl, refl, refl, refl, refl, refl, refl, refl, refl, refl, refl, refl)
 

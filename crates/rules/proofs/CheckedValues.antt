@@ -34,14 +34,9 @@ row side pe limiter barrier reb =
     record {
       series = 0;
       side = side;
-      barrier = barrier;
-      limiter = limiter;
-      knockedIn = false;
-      european = true;
-      beforeAnnex = false;
+      terms = record { pe = pe; limiter = limiter; barrier = barrier; reb = reb };
+      flags = record { knockedIn = false; limited = false; european = true; beforeAnnex = false };
       q = 10;
-      pe = pe;
-      reb = reb;
       premium = 0;
     }
 

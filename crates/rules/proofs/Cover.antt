@@ -22,6 +22,7 @@ use Rattle.rules.specs.declared.OptionType.{OptionType}
 use Rattle.rules.specs.declared.OptionType.the-variants.{Call, Put}
 use Rattle.rules.specs.declared.Position.{Position}
 use Rattle.rules.specs.declared.Series.{Series}
+use Rattle.rules.specs.declared.Terms.{Terms}
 
 -- The rule of an in barrier in numbers. t: the barrier was touched; i < j: it is out of reach; v is paid at the end and
 -- x charged for it; m is MM and r the rebate.
@@ -40,7 +41,7 @@ out-≤ false i j m r v x y f g h =
     ltb-case (λ u. v ≤ u) i j _ _ (omega (arith, g refl)) (omega (arith, h refl))
 
 -- A path that starts at a and goes on with l.
-module _ (k : OptionType) (s : Series) (p : Position) (a : ℕ) (l : List ℕ) (path : Prices s (a ∷ l)) where
+module _ (k : OptionType) (s : Series) (p : Terms) (a : ℕ) (l : List ℕ) (path : Prices s (a ∷ l)) where
   within : Every (In (low s) (high s)) (a ∷ l)
   within = inside s (a ∷ l) path
 

@@ -1,18 +1,19 @@
 -- Computed values of the file, its refusals and the answers: the third part of the table of `RuleValues`.
 use Prim.Native.Nat.{ℕ}
-use mathlib.Core.Bool.{true, false}
+use mathlib.Core.Bool.{Bool, true, false}
 use mathlib.Core.List.{List, [], _∷_, _++_}
 use mathlib.Core.Path.{_≡_}
 use lib.IntN.{negℤ, pos}
 use Rattle.rules.proofs.CheckOrder.{bytes4, trailerBytes}
 use Rattle.rules.proofs.CheckedValues.{row, series}
-use Rattle.rules.specs.File.{barrierOf, beforeAnnexFlag, europeanFlag, knockedInFlag, limiterFlag, limiterOf, optionOf, positionRowFrom, seriesRowFrom, sideOf, span, u16At, u24At, u32At, u8At}
+use Rattle.rules.specs.File.{barrierOf, flagsOf, limiterOf, optionOf, positionRowFrom, seriesRowFrom, sideOf, span, u16At, u24At, u32At, u8At}
 use Rattle.rules.specs.Lines.{total}
 use Rattle.rules.specs.Lines.{marginAnswer}
 use Rattle.rules.specs.OnePosition.{amountAnswer, signedAnswer}
 use Rattle.rules.specs.Output.{marginText, premiumsFor}
 use Rattle.rules.specs.Refusals.{meaning, refused, rows}
 use Rattle.rules.specs.declared.Barrier.the-variants.{NoBarrier, UpIn, DownIn, UpOut, DownOut}
+use Rattle.rules.specs.declared.Flags.{Flags}
 use Rattle.rules.specs.declared.FileRead.the-variants.{Refused}
 use Rattle.rules.specs.declared.Limiter.the-variants.{NoLimiter, At}
 use Rattle.rules.specs.declared.OptionType.the-variants.{Call, Put}
@@ -68,19 +69,21 @@ Fields =
     × (barrierOf 4 7 ≡ DownOut 7)
 
 -- Each flag is one bit, whatever the others are.
-abbrev pub Flags : Type 0
-Flags =
-    (knockedInFlag 1 ≡ true)
-    × (knockedInFlag 4 ≡ false)
-    × (limiterFlag 2 ≡ true)
-    × (limiterFlag 8 ≡ false)
-    × (europeanFlag 12 ≡ true)
-    × (europeanFlag 8 ≡ false)
-    × (beforeAnnexFlag 24 ≡ true)
-    × (beforeAnnexFlag 8 ≡ true)
-    × (beforeAnnexFlag 4 ≡ false)
-    × (limiterOf 2 7 ≡ At 7)
-    × (limiterOf 13 7 ≡ NoLimiter)
+abbrev pub flags : Bool → Bool → Bool → Bool → Flags
+flags knockedIn limited european beforeAnnex =
+    record { knockedIn = knockedIn; limited = limited; european = european; beforeAnnex = beforeAnnex }
+
+abbrev pub FlagBits : Type 0
+FlagBits =
+    (flagsOf 0 ≡ flags false false false false)
+    × (flagsOf 1 ≡ flags true false false false)
+    × (flagsOf 2 ≡ flags false true false false)
+    × (flagsOf 4 ≡ flags false false true false)
+    × (flagsOf 8 ≡ flags false false false true)
+    × (flagsOf 15 ≡ flags true true true true)
+    × (flagsOf 24 ≡ flags false false false true)
+    × (limiterOf true 7 ≡ At 7)
+    × (limiterOf false 7 ≡ NoLimiter)
 
 -- A position row: series, side, kind, flags; Q, PE, PB, barrier price, REB, premium.
 abbrev pub rowBytes : ℕ → ℕ → ℕ → ℕ → ℕ → ℕ → ℕ → ℕ → ℕ → ℕ → List ℕ
@@ -108,6 +111,8 @@ abbrev pub Numbers : Type 0
 Numbers =
     (meaning [] ≡ refused 1 0)
     × (meaning (trailerBytes 33 1 836 0) ≡ refused 2 0)
+    × (meaning (trailerBytes 32 257 (span 32 257) 0) ≡ refused 2 0)
+    × (meaning (trailerBytes 32 256 (span 32 256) 0) ≡ refused 4 0)
     × (meaning (typedBytes 3000 0 ++ trailerBytes 1 0 (span 1 0) 0) ≡ refused 3 0)
     × (meaning (typedBytes 3000 0 ++ trailerBytes 1 1 (span 1 1) 0) ≡ refused 4 0)
     × (meaning (typedBytes 3000 0 ++ typedBytes 0 0 ++ rowBytes 0 1 0 4 10 3100 0 0 0 0 ++ trailerBytes 2 1 (span 2 1) 0) ≡ refused 5 1)

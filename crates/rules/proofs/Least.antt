@@ -24,6 +24,7 @@ use Rattle.rules.specs.declared.Barrier.the-variants.{NoBarrier, UpIn, D
 use Rattle.rules.specs.declared.OptionType.{OptionType}
 use Rattle.rules.specs.declared.Position.{Position}
 use Rattle.rules.specs.declared.Series.{Series}
+use Rattle.rules.specs.declared.Terms.{Terms}
 
 -- The rule of an in barrier in numbers. i < j: it is out of reach; x is charged for the payoff; m is MM, r the rebate
 -- and a an amount that covers.
@@ -40,7 +41,7 @@ out-least i j m r x y a e f g h =
     ltb-case (λ u. u ≤ a + 1) i j _ _ (λ (t : i < j). omega (arith, f t)) (λ (t : j ≤ i). omega (arith, g t, h t))
 
 -- An amount a that covers.
-module _ (k : OptionType) (s : Series) (p : Position) (a : ℕ) where
+module _ (k : OptionType) (s : Series) (p : Terms) (a : ℕ) where
   -- It covers the charge over lo to hi but for n, if it covers the payoff at each price from lo' to hi' and those lack
   -- at most n prices of lo to hi.
   charged :
@@ -131,7 +132,7 @@ module _ (k : OptionType) (s : Series) (p : Position) (a : ℕ) where
 max-over : (i j m x y : ℕ) → m ≤ cond (ltb i j) (max m x) (max m y)
 max-over i j m x y = ltb-case (λ u. m ≤ u) i j _ _ (omega arith) (omega arith)
 
-minimum-rule : (k : OptionType) (bar : Barrier) (s : Series) (p : Position) → minimum s ≤ rule k bar s p
+minimum-rule : (k : OptionType) (bar : Barrier) (s : Series) (p : Terms) → minimum s ≤ rule k bar s p
 minimum-rule k NoBarrier s p = omega arith
 minimum-rule k (UpIn b) s p = max-over (high s) (fine b) _ _ _
 minimum-rule k (DownIn b) s p = max-over (fine b) (low s) _ _ _

@@ -23,6 +23,7 @@ pub mod Cover
 pub mod RowFacts
 pub mod Least
 pub mod SameRows
+pub mod SpreadForms
 pub mod PairCover
 -- Pairing: the choice, the rounds, the lines.
 pub mod PairOrder

@@ -25,14 +25,9 @@ knockedInRow side pe barrier reb =
     record {
       series = 0;
       side = side;
-      barrier = barrier;
-      limiter = NoLimiter;
-      knockedIn = true;
-      european = true;
-      beforeAnnex = false;
+      terms = record { pe = pe; limiter = NoLimiter; barrier = barrier; reb = reb };
+      flags = record { knockedIn = true; limited = false; european = true; beforeAnnex = false };
       q = 10;
-      pe = pe;
-      reb = reb;
       premium = 0;
     }
 

@@ -84,11 +84,11 @@ apart a w h e d =
 
 -- "strike difference, without sign"
 pub gap-up : (a : Account) (w h : ℕ)
-    → a .positionAt w .pe ≤ a .positionAt h .pe → gapOf a w h ≡ a .positionAt h .pe - a .positionAt w .pe
+    → a .positionAt w .terms .pe ≤ a .positionAt h .terms .pe → gapOf a w h ≡ a .positionAt h .terms .pe - a .positionAt w .terms .pe
 unfolding gapOf
 gap-up a w h l = omega arith
 
 pub gap-down : (a : Account) (w h : ℕ)
-    → a .positionAt h .pe ≤ a .positionAt w .pe → gapOf a w h ≡ a .positionAt w .pe - a .positionAt h .pe
+    → a .positionAt h .terms .pe ≤ a .positionAt w .terms .pe → gapOf a w h ≡ a .positionAt w .terms .pe - a .positionAt h .terms .pe
 unfolding gapOf
 gap-down a w h l = omega arith

@@ -11,8 +11,8 @@ use Rattle.rules.specs.declared.Barrier.{Barrier}
 use Rattle.rules.specs.declared.Barrier.the-variants.{NoBarrier, UpIn, DownIn, UpOut, DownOut}
 use Rattle.rules.specs.declared.OptionType.{OptionType}
 use Rattle.rules.specs.declared.OptionType.the-variants.{Call, Put}
-use Rattle.rules.specs.declared.Position.{Position}
 use Rattle.rules.specs.declared.Series.{Series}
+use Rattle.rules.specs.declared.Terms.{Terms}
 
 -- Of the prices from lo to hi the one that costs the writer most.
 abbrev pub worst : OptionType → ℕ → ℕ → ℕ
@@ -20,20 +20,20 @@ worst Call lo hi = hi
 worst Put lo hi = lo
 
 -- C or P where x is the H or L in force.
-abbrev pub charge : OptionType → Series → Position → ℕ → ℕ
+abbrev pub charge : OptionType → Series → Terms → ℕ → ℕ
 charge Call s p x = callPayoff s p x
 charge Put s p x = putPayoff s p x
 
 -- max(MM; C) or max(MM; P)
-abbrev pub bare : OptionType → Series → Position → ℕ → ℕ
+abbrev pub bare : OptionType → Series → Terms → ℕ → ℕ
 bare k s p x = max (minimum s) (charge k s p x)
 
 -- max(MM; REB; C) or max(MM; REB; P)
-abbrev pub most : OptionType → Series → Position → ℕ → ℕ
+abbrev pub most : OptionType → Series → Terms → ℕ → ℕ
 most k s p x = max (minimum s) (max (rebate p) (charge k s p x))
 
 -- The unit margin by the barrier.
-abbrev pub rule : OptionType → Barrier → Series → Position → ℕ
+abbrev pub rule : OptionType → Barrier → Series → Terms → ℕ
 rule k NoBarrier s p = most k s p (worst k (low s) (high s))
 rule k (UpIn b) s p =
     cond (ltb (high s) (fine b)) (max (minimum s) (rebate p)) (most k s p (worst k (b * s .fb) (high s)))
@@ -47,7 +47,7 @@ rule k (DownOut b) s p =
     (most k s p (worst k (fine b) (high s)))
 
 -- It is document 01's, of every series and position.
-pub mirror : (k : OptionType) (bar : Barrier) (s : Series) (p : Position) → unitBy k bar s p ≡ rule k bar s p
+pub mirror : (k : OptionType) (bar : Barrier) (s : Series) (p : Terms) → unitBy k bar s p ≡ rule k bar s p
 mirror Call NoBarrier s p = refl
 mirror Call (UpIn b) s p = refl
 mirror Call (DownIn b) s p = refl

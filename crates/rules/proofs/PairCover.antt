@@ -26,6 +26,7 @@ use Rattle.rules.specs.declared.Position.{Position}
 use Rattle.rules.specs.declared.Series.{Series}
 use Rattle.rules.specs.declared.Spread.{Spread}
 use Rattle.rules.specs.declared.Spread.the-variants.{Barred, Margin}
+use Rattle.rules.specs.declared.Terms.{Terms}
 
 -- The spread and the held payment y cover the written payment x. Where there is no pair nothing is asked.
 abbrev Covered : Spread → ℕ → ℕ → Type 0
@@ -50,7 +51,7 @@ unbarred k NoLimiter (At pb) z e = absurd (true≢false e)
 unbarred k (At pb) w z e = absurd (true≢false e)
 
 -- Payoffs at one price.
-module _ (h w : Position) (z : ℕ) where
+module _ (h w : Terms) (z : ℕ) where
   strike-owes :
       (k : OptionType) → Cut k (h .limiter) (w .limiter) z → payoffAt k w z ≤ strikeLoss k h w + payoffAt k h z
   strike-owes Call c = omega arith
@@ -100,7 +101,7 @@ out-pair false false equal covers reached s b c d v y f g i j m =
     out-payoff covers reached s (cond equal (b - c) b) d v y j (m refl)
 
 -- A held row h and a written row w on a path that starts at a and goes on with l.
-module _ (s : Series) (h w : Position) (a : ℕ) (l : List ℕ) (within : Every (In (low s) (high s)) (a ∷ l)) where
+module _ (s : Series) (h w : Terms) (a : ℕ) (l : List ℕ) (within : Every (In (low s) (high s)) (a ∷ l)) where
   last-in : In (low s) (high s) (lastOr a l)
   last-in = every-last (In (low s) (high s)) a l within
 

@@ -13,8 +13,8 @@ use Rattle.rules.specs.declared.Limiter.{Limiter}
 use Rattle.rules.specs.declared.Limiter.the-variants.{NoLimiter, At}
 use Rattle.rules.specs.declared.OptionType.{OptionType}
 use Rattle.rules.specs.declared.OptionType.the-variants.{Call, Put}
-use Rattle.rules.specs.declared.Position.{Position}
 use Rattle.rules.specs.declared.Series.{Series}
+use Rattle.rules.specs.declared.Terms.{Terms}
 
 -- The worst price is one of the prices.
 pub worst-in : (k : OptionType) (lo hi : ℕ) → lo ≤ hi → In lo hi (worst k lo hi)
@@ -34,7 +34,7 @@ floored-paid (At pb) x z l a b = omega arith
 -- A payoff at one of the series' prices is at most the charge over lo to hi. A call asks that hi bounds the price, a
 -- put that lo does.
 pub paid-charged :
-    (k : OptionType) (s : Series) (p : Position) (z lo hi : ℕ) → In (low s) (high s) z
+    (k : OptionType) (s : Series) (p : Terms) (z lo hi : ℕ) → In (low s) (high s) z
     → (k ≡ Call → z ≤ hi) → (k ≡ Put → lo ≤ z) → payoffAt k p z ≤ charge k s p (worst k lo hi)
 paid-charged Call s p z lo hi i c d = omega (arith, capped-paid (p .limiter) hi z (high s) (i .1) (c refl))
 paid-charged Put s p z lo hi i c d = omega (arith, floored-paid (p .limiter) lo z (low s) (i .0) (d refl))
@@ -50,7 +50,7 @@ floored-charged (At pb) n x z l a = omega arith
 
 -- The charge over lo to hi is at most the payoff at the worst of other prices, but for n if those lack at most n.
 pub charged-paid :
-    (k : OptionType) (s : Series) (p : Position) (n lo hi lo' hi' : ℕ) → lo' ≤ lo + n → hi ≤ hi' + n
+    (k : OptionType) (s : Series) (p : Terms) (n lo hi lo' hi' : ℕ) → lo' ≤ lo + n → hi ≤ hi' + n
     → charge k s p (worst k lo hi) ≤ payoffAt k p (worst k lo' hi') + n
 charged-paid Call s p n lo hi lo' hi' a b = omega (arith, capped-charged (p .limiter) n hi hi' (high s) b)
 charged-paid Put s p n lo hi lo' hi' a b = omega (arith, floored-charged (p .limiter) n lo lo' (low s) a)

@@ -7,14 +7,13 @@ use mathlib.Core.Path.{_≡_, refl, ap}
 use native.Mathlib.Omega.{arith}
 use borrow.Author.Tests.{eq-eqb, eqb-true, eqb-false, le-ltb, leb-false, lt-leb, ltb-false, ne-eqb, not-true}
 use lib.Dec.{eqb, leb, ltb}
-use Rattle.rules.specs.File.{knockedInFlag, limiterFlag}
+use Rattle.rules.specs.File.{flagsOf}
 use Rattle.rules.specs.Limits.{PositionWithin}
-use Rattle.rules.specs.Refusals.{matchedFault, nonzero, outside, positionRowFault, refuse, wrongBarrierPrice, wrongBarrierSide, wrongFlags, wrongLimiter, wrongRange, wrongTerms}
+use Rattle.rules.specs.Refusals.{nonzero, outside, positionRowChecks, positionRowFault, wrongFlags}
 use Rattle.rules.specs.declared.Fault.the-variants.{Clean}
 use Rattle.rules.specs.declared.PositionRow.{PositionRow}
-use Rattle.rules.specs.declared.Refusal.the-variants.{PositionTerms, PositionRange, LimiterPrice, BarrierPrice, BarrierSide}
 use Rattle.rules.specs.declared.SeriesRow.{SeriesRow}
-use Rattle.rules.proofs.Chain.{clean, five-fail, in-range, inside, is-zero, none-of-five, none-of-three, passed, three-fail, zero-is}
+use Rattle.rules.proofs.Chain.{all-clean, all-pass, five-fail, in-range, inside, is-zero, none-of-five, none-of-three, three-fail, zero-is}
 use Rattle.rules.proofs.Tests.{both, both-fail, both-hold, neither, not-both, one-fails}
 
 -- A bit that is 0 is not 1, and one that is not 1 is 0.
@@ -38,25 +37,21 @@ either-of n a b e = go (eqb n a) refl e
 
 module _ (s : ℕ) (k : SeriesRow) (r : PositionRow) where
   pub position-within : positionRowFault s k r ≡ Clean → PositionWithin s k r
-  unfolding positionRowFault matchedFault
+  unfolding positionRowFault
   position-within e =
-      let limited : Bool = limiterFlag (r .flags) in
-      let knocked : Bool = knockedInFlag (r .flags) in
+      let limited : Bool = flagsOf (r .flags) .limited in
+      let knocked : Bool = flagsOf (r .flags) .knockedIn in
       let call : Bool = eqb (k .option) 0 in
       let up : Bool = eqb (r .kind) 1 || eqb (r .kind) 3 in
       let down : Bool = eqb (r .kind) 2 || eqb (r .kind) 4 in
-      let e7 = passed (wrongTerms s r) PositionTerms (matchedFault k r) e in
-      let e8 = passed (wrongRange r) PositionRange (refuse (wrongLimiter (k .option) r) LimiterPrice (refuse (wrongBarrierPrice r) BarrierPrice (refuse (wrongBarrierSide (k .pv) r) BarrierSide Clean))) (e7 .1) in
-      let e9 = passed (wrongLimiter (k .option) r) LimiterPrice (refuse (wrongBarrierPrice r) BarrierPrice (refuse (wrongBarrierSide (k .pv) r) BarrierSide Clean)) (e8 .1) in
-      let e10 = passed (wrongBarrierPrice r) BarrierPrice (refuse (wrongBarrierSide (k .pv) r) BarrierSide Clean) (e9 .1) in
-      let e11 = passed (wrongBarrierSide (k .pv) r) BarrierSide Clean (e10 .1) in
-      let terms = none-of-five (leb s (r .series)) (ltb 1 (r .side)) (ltb 4 (r .kind)) (wrongFlags r) (nonzero (r .spare)) (e7 .0) in
+      let passes = all-pass (positionRowChecks s k r) e in
+      let terms = none-of-five (leb s (r .series)) (ltb 1 (r .side)) (ltb 4 (r .kind)) (wrongFlags r) (nonzero (r .spare)) (passes .0) in
       let flags = neither (ltb 15 (r .flags)) (knocked && outside 1 2 (r .kind)) (terms .3) in
-      let range = none-of-five (outside 1 100_000 (r .q)) (outside 1 10_000_000 (r .pe)) (ltb 10_000_000 (r .reb)) (ltb 10_000_000 (r .premium)) (eqb (r .side) 1 && nonzero (r .premium)) (e8 .0) in
-      let limits = none-of-three (not limited && nonzero (r .pb)) (limited && call && (leb (r .pb) (r .pe) || ltb 10_000_000 (r .pb))) (limited && not call && leb (r .pe) (r .pb)) (e9 .0) in
-      let prices = neither (eqb (r .kind) 0 && (nonzero (r .price) || nonzero (r .reb))) (nonzero (r .kind) && outside 1 10_000_000 (r .price)) (e10 .0) in
+      let range = none-of-five (outside 1 100_000 (r .q)) (outside 1 10_000_000 (r .pe)) (ltb 10_000_000 (r .reb)) (ltb 10_000_000 (r .premium)) (eqb (r .side) 1 && nonzero (r .premium)) (passes .1 .0) in
+      let limits = none-of-three (not limited && nonzero (r .pb)) (limited && call && (leb (r .pb) (r .pe) || ltb 10_000_000 (r .pb))) (limited && not call && leb (r .pe) (r .pb)) (passes .1 .1 .0) in
+      let prices = neither (eqb (r .kind) 0 && (nonzero (r .price) || nonzero (r .reb))) (nonzero (r .kind) && outside 1 10_000_000 (r .price)) (passes .1 .1 .1 .0) in
       let none : r .kind ≡ 0 → (nonzero (r .price) ≡ false) × (nonzero (r .reb) ≡ false) = λ z. neither (nonzero (r .price)) (nonzero (r .reb)) (not-both (eqb (r .kind) 0) (nonzero (r .price) || nonzero (r .reb)) (prices .0) (eq-eqb (r .kind) 0 z)) in
-      let sides : r .flags % 2 ≡ 0 → ((up && leb (r .price) (k .pv)) ≡ false) × ((down && leb (k .pv) (r .price)) ≡ false) = λ z. neither (up && leb (r .price) (k .pv)) (down && leb (k .pv) (r .price)) (not-both (not knocked) ((up && leb (r .price) (k .pv)) || (down && leb (k .pv) (r .price))) (e11 .0) (ap not (bit-clear (r .flags % 2) z))) in
+      let sides : r .flags % 2 ≡ 0 → ((up && leb (r .price) (k .pv)) ≡ false) × ((down && leb (k .pv) (r .price)) ≡ false) = λ z. neither (up && leb (r .price) (k .pv)) (down && leb (k .pv) (r .price)) (not-both (not knocked) ((up && leb (r .price) (k .pv)) || (down && leb (k .pv) (r .price))) (passes .1 .1 .1 .1 .0) (ap not (bit-clear (r .flags % 2) z))) in
       record {
         series-below = leb-false s (r .series) (terms .0);
         side-most = ltb-false 1 (r .side) (terms .1);
@@ -85,52 +80,57 @@ module _ (s : ℕ) (k : SeriesRow) (r : PositionRow) where
 
   -- The way back asks that the series' type is 0 or 1, as every row's series has by then.
   pub position-clean : k .option ≤ 1 → PositionWithin s k r → positionRowFault s k r ≡ Clean
-  unfolding positionRowFault matchedFault
+  unfolding positionRowFault
   position-clean o h =
-      let limited : Bool = limiterFlag (r .flags) in
-      let knocked : Bool = knockedInFlag (r .flags) in
+      let limited : Bool = flagsOf (r .flags) .limited in
+      let knocked : Bool = flagsOf (r .flags) .knockedIn in
       let call : Bool = eqb (k .option) 0 in
       let up : Bool = eqb (r .kind) 1 || eqb (r .kind) 3 in
       let down : Bool = eqb (r .kind) 2 || eqb (r .kind) 4 in
-      clean (wrongTerms s r) PositionTerms (matchedFault k r)
-      (five-fail (leb s (r .series)) (ltb 1 (r .side)) (ltb 4 (r .kind)) (wrongFlags r) (nonzero (r .spare))
-      (lt-leb s (r .series) (h .series-below))
-      (le-ltb 1 (r .side) (h .side-most))
-      (le-ltb 4 (r .kind) (h .kind-most))
-      (both-fail (ltb 15 (r .flags)) (knocked && outside 1 2 (r .kind)) (le-ltb 15 (r .flags) (h .flags-most))
-      (one-fails knocked (outside 1 2 (r .kind)) (λ t. let z = h .knocked-kind (eqb-true (r .flags % 2) 1 t) in in-range 1 2 (r .kind) (z .0) (z .1))))
-      (zero-is (r .spare) (h .spare-zero)))
-      (clean (wrongRange r) PositionRange (refuse (wrongLimiter (k .option) r) LimiterPrice (refuse (wrongBarrierPrice r) BarrierPrice (refuse (wrongBarrierSide (k .pv) r) BarrierSide Clean)))
-      (five-fail (outside 1 100_000 (r .q)) (outside 1 10_000_000 (r .pe)) (ltb 10_000_000 (r .reb)) (ltb 10_000_000 (r .premium)) (eqb (r .side) 1 && nonzero (r .premium))
-      (in-range 1 100_000 (r .q) (h .q-least) (h .q-most))
-      (in-range 1 10_000_000 (r .pe) (h .pe-least) (h .pe-most))
-      (le-ltb 10_000_000 (r .reb) (h .reb-most))
-      (le-ltb 10_000_000 (r .premium) (h .premium-most))
-      (one-fails (eqb (r .side) 1) (nonzero (r .premium)) (λ t. zero-is (r .premium) (h .premium-written (eqb-true (r .side) 1 t)))))
-      (clean (wrongLimiter (k .option) r) LimiterPrice (refuse (wrongBarrierPrice r) BarrierPrice (refuse (wrongBarrierSide (k .pv) r) BarrierSide Clean))
-      (three-fail (not limited && nonzero (r .pb)) (limited && call && (leb (r .pb) (r .pe) || ltb 10_000_000 (r .pb))) (limited && not call && leb (r .pe) (r .pb))
-      (one-fails (not limited) (nonzero (r .pb)) (λ t. zero-is (r .pb) (h .pb-none (bit-zero (r .flags / 2) t))))
-      (one-fails (limited && call) (leb (r .pb) (r .pe) || ltb 10_000_000 (r .pb)) (λ t.
-      let u = both limited call t in
-      let z = h .pb-call (eqb-true (r .flags / 2 % 2) 1 (u .0)) (eqb-true (k .option) 0 (u .1)) in
-      both-fail (leb (r .pb) (r .pe)) (ltb 10_000_000 (r .pb)) (lt-leb (r .pb) (r .pe) (z .0)) (le-ltb 10_000_000 (r .pb) (z .1))))
-      (one-fails (limited && not call) (leb (r .pe) (r .pb)) (λ t.
-      let u = both limited (not call) t in
-      let v = eqb-false (k .option) 0 (not-true call (u .1)) in
-      lt-leb (r .pe) (r .pb) (h .pb-put (eqb-true (r .flags / 2 % 2) 1 (u .0)) (omega arith)))))
-      (clean (wrongBarrierPrice r) BarrierPrice (refuse (wrongBarrierSide (k .pv) r) BarrierSide Clean)
-      (both-fail (eqb (r .kind) 0 && (nonzero (r .price) || nonzero (r .reb))) (nonzero (r .kind) && outside 1 10_000_000 (r .price))
-      (one-fails (eqb (r .kind) 0) (nonzero (r .price) || nonzero (r .reb)) (λ t.
-      let z = eqb-true (r .kind) 0 t in
-      both-fail (nonzero (r .price)) (nonzero (r .reb)) (zero-is (r .price) (h .price-none z)) (zero-is (r .reb) (h .reb-none z))))
-      (one-fails (nonzero (r .kind)) (outside 1 10_000_000 (r .price)) (λ t.
-      let v = eqb-false (r .kind) 0 (not-true (eqb (r .kind) 0) t) in
-      let z = h .price-some (omega arith) in
-      in-range 1 10_000_000 (r .price) (z .0) (z .1))))
-      (clean (wrongBarrierSide (k .pv) r) BarrierSide Clean
-      (one-fails (not knocked) ((up && leb (r .price) (k .pv)) || (down && leb (k .pv) (r .price))) (λ t.
-      let z = bit-zero (r .flags) t in
-      both-fail (up && leb (r .price) (k .pv)) (down && leb (k .pv) (r .price))
-      (one-fails up (leb (r .price) (k .pv)) (λ u. lt-leb (r .price) (k .pv) (h .price-above z (either-of (r .kind) 1 3 u))))
-      (one-fails down (leb (k .pv) (r .price)) (λ u. lt-leb (k .pv) (r .price) (h .price-below z (either-of (r .kind) 2 4 u))))))
-      refl))))
+      all-clean (positionRowChecks s k r) (
+        (five-fail (leb s (r .series)) (ltb 1 (r .side)) (ltb 4 (r .kind)) (wrongFlags r) (nonzero (r .spare))
+            (lt-leb s (r .series) (h .series-below))
+            (le-ltb 1 (r .side) (h .side-most))
+            (le-ltb 4 (r .kind) (h .kind-most))
+            (both-fail (ltb 15 (r .flags)) (knocked && outside 1 2 (r .kind)) (le-ltb 15 (r .flags) (h .flags-most))
+            (one-fails knocked (outside 1 2 (r .kind)) (λ t. let z = h .knocked-kind (eqb-true (r .flags % 2) 1 t) in in-range 1 2 (r .kind) (z .0) (z .1))))
+            (zero-is (r .spare) (h .spare-zero))),
+        (
+          (five-fail (outside 1 100_000 (r .q)) (outside 1 10_000_000 (r .pe)) (ltb 10_000_000 (r .reb)) (ltb 10_000_000 (r .premium)) (eqb (r .side) 1 && nonzero (r .premium))
+              (in-range 1 100_000 (r .q) (h .q-least) (h .q-most))
+              (in-range 1 10_000_000 (r .pe) (h .pe-least) (h .pe-most))
+              (le-ltb 10_000_000 (r .reb) (h .reb-most))
+              (le-ltb 10_000_000 (r .premium) (h .premium-most))
+              (one-fails (eqb (r .side) 1) (nonzero (r .premium)) (λ t. zero-is (r .premium) (h .premium-written (eqb-true (r .side) 1 t))))),
+          (
+            (three-fail (not limited && nonzero (r .pb)) (limited && call && (leb (r .pb) (r .pe) || ltb 10_000_000 (r .pb))) (limited && not call && leb (r .pe) (r .pb))
+                (one-fails (not limited) (nonzero (r .pb)) (λ t. zero-is (r .pb) (h .pb-none (bit-zero (r .flags / 2) t))))
+                (one-fails (limited && call) (leb (r .pb) (r .pe) || ltb 10_000_000 (r .pb)) (λ t.
+                let u = both limited call t in
+                let z = h .pb-call (eqb-true (r .flags / 2 % 2) 1 (u .0)) (eqb-true (k .option) 0 (u .1)) in
+                both-fail (leb (r .pb) (r .pe)) (ltb 10_000_000 (r .pb)) (lt-leb (r .pb) (r .pe) (z .0)) (le-ltb 10_000_000 (r .pb) (z .1))))
+                (one-fails (limited && not call) (leb (r .pe) (r .pb)) (λ t.
+                let u = both limited (not call) t in
+                let v = eqb-false (k .option) 0 (not-true call (u .1)) in
+                lt-leb (r .pe) (r .pb) (h .pb-put (eqb-true (r .flags / 2 % 2) 1 (u .0)) (omega arith))))),
+            (
+              (both-fail (eqb (r .kind) 0 && (nonzero (r .price) || nonzero (r .reb))) (nonzero (r .kind) && outside 1 10_000_000 (r .price))
+                  (one-fails (eqb (r .kind) 0) (nonzero (r .price) || nonzero (r .reb)) (λ t.
+                  let z = eqb-true (r .kind) 0 t in
+                  both-fail (nonzero (r .price)) (nonzero (r .reb)) (zero-is (r .price) (h .price-none z)) (zero-is (r .reb) (h .reb-none z))))
+                  (one-fails (nonzero (r .kind)) (outside 1 10_000_000 (r .price)) (λ t.
+                  let v = eqb-false (r .kind) 0 (not-true (eqb (r .kind) 0) t) in
+                  let z = h .price-some (omega arith) in
+                  in-range 1 10_000_000 (r .price) (z .0) (z .1)))),
+              (
+                (one-fails (not knocked) ((up && leb (r .price) (k .pv)) || (down && leb (k .pv) (r .price))) (λ t.
+                    let z = bit-zero (r .flags) t in
+                    both-fail (up && leb (r .price) (k .pv)) (down && leb (k .pv) (r .price))
+                    (one-fails up (leb (r .price) (k .pv)) (λ u. lt-leb (r .price) (k .pv) (h .price-above z (either-of (r .kind) 1 3 u))))
+                    (one-fails down (leb (k .pv) (r .price)) (λ u. lt-leb (k .pv) (r .price) (h .price-below z (either-of (r .kind) 2 4 u)))))),
+                tt,
+              ),
+            ),
+          ),
+        ),
+      )

@@ -8,9 +8,9 @@ use borrow.Author.Tests.{eqb-false, eqb-true}
 use lib.Dec.{eqb}
 use native.Mathlib.Omega.{arith}
 use Rattle.rules.proofs.Tests.{cond-case}
-use Rattle.rules.specs.File.{barrierOf, knockedInFlag, positionOf, seriesOf}
+use Rattle.rules.specs.File.{barrierOf, flagsOf, positionOf, seriesOf, termsOf}
 use Rattle.rules.specs.Limits.{PositionWithin}
-use Rattle.rules.specs.OnePosition.{knockedIn, normal}
+use Rattle.rules.specs.OnePosition.{afterFlag1, normal}
 use Rattle.rules.specs.Spreads.{kindOf}
 use Rattle.rules.specs.declared.Barrier.{Barrier}
 use Rattle.rules.specs.declared.Barrier.the-variants.{NoBarrier, UpIn, DownIn, UpOut, DownOut}
@@ -41,9 +41,9 @@ by-kind P kind price most none ui di uo do' =
 module _ {n : ℕ} {k : SeriesRow} {r : PositionRow} (w : PositionWithin n k r) where
   -- "above PV for kinds 1 and 3, below PV for kinds 2 and 4, except where flag 1 is set"
   pub beside : Beside (seriesOf k .pv) (normal (positionOf r) .barrier)
-  beside = by-flag (knockedInFlag (r .flags)) refl
+  beside = by-flag (flagsOf (r .flags) .knockedIn) refl
     where
-      by-flag : (t : Bool) → knockedInFlag (r .flags) ≡ t → Beside (k .pv) (knockedIn t (positionOf r) .barrier)
+      by-flag : (t : Bool) → flagsOf (r .flags) .knockedIn ≡ t → Beside (k .pv) (afterFlag1 t (termsOf r) .barrier)
       by-flag true e = tt
       by-flag false e =
           let clear : r .flags % 2 ≡ 0 = omega (arith, eqb-false (r .flags % 2) 1 e) in
@@ -60,8 +60,8 @@ module _ {n : ℕ} {k : SeriesRow} {r : PositionRow} (w : PositionWithin n k r) 
 
   -- "Kind 0 has .. REB 0"; "Flag 1 makes the position one without barrier and with REB 0."
   pub rebate-none : normal (positionOf r) .barrier ≡ NoBarrier → normal (positionOf r) .reb ≡ 0
-  rebate-none = by-flag (knockedInFlag (r .flags))
+  rebate-none = by-flag (flagsOf (r .flags) .knockedIn)
     where
-      by-flag : (t : Bool) → knockedIn t (positionOf r) .barrier ≡ NoBarrier → knockedIn t (positionOf r) .reb ≡ 0
+      by-flag : (t : Bool) → afterFlag1 t (termsOf r) .barrier ≡ NoBarrier → afterFlag1 t (termsOf r) .reb ≡ 0
       by-flag true e = refl
       by-flag false e = w .reb-none (kind-of ∙ ap kindOf e)

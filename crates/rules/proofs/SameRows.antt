@@ -1,4 +1,5 @@
--- Rows with the same strike, limiter, barrier and rebate pay the same, and a barrier is known by its kind and price.
+-- Rows with the same strike, limiter, barrier and rebate have equal terms and pay the same, and a barrier is known by its
+-- kind and price.
 -- Assumes nothing.
 use Prim.Native.Nat.{ℕ}
 use mathlib.Core.Bool.{true, and-eq-true-iff, false≢true, _&&_}
@@ -7,15 +8,14 @@ use mathlib.Core.Path.{_≡_, refl, ap, sym, _∙_}
 use borrow.Author.Tests.{eqb-true}
 use lib.Dec.{eqb}
 use Rattle.rules.specs.File.{barrierOf}
-use Rattle.rules.specs.Paths.{last, paymentByBarrier, payoffAt}
+use Rattle.rules.specs.Paths.{paymentByBarrier}
 use Rattle.rules.specs.Spreads.{kindOf, priceOf, same, sameBarrier, sameLimiter}
 use Rattle.rules.specs.declared.Barrier.{Barrier}
 use Rattle.rules.specs.declared.Barrier.the-variants.{NoBarrier, UpIn, DownIn, UpOut, DownOut}
 use Rattle.rules.specs.declared.Limiter.{Limiter}
 use Rattle.rules.specs.declared.Limiter.the-variants.{NoLimiter, At}
 use Rattle.rules.specs.declared.OptionType.{OptionType}
-use Rattle.rules.specs.declared.OptionType.the-variants.{Call, Put}
-use Rattle.rules.specs.declared.Position.{Position}
+use Rattle.rules.specs.declared.Terms.{Terms}
 
 -- A barrier is what its kind and price make.
 own : (bar : Barrier) → barrierOf (kindOf bar) (priceOf bar) ≡ bar
@@ -40,31 +40,21 @@ same-limiter NoLimiter (At w) e = absurd (false≢true e)
 same-limiter (At h) NoLimiter e = absurd (false≢true e)
 same-limiter (At h) (At w) e = ap At (eqb-true h w e)
 
--- A payment looks at the strike, the limiter and the rebate, besides the barrier.
-module _ (h w : Position) (pe : h .pe ≡ w .pe) (lim : h .limiter ≡ w .limiter) (reb : h .reb ≡ w .reb) where
-  payoff-same : (k : OptionType) (z : ℕ) → payoffAt k h z ≡ payoffAt k w z
-  payoff-same Call z = cc
-  payoff-same Put z = cc
-
-  paid-same : (k : OptionType) (bar : Barrier) (l : List ℕ) → paymentByBarrier k bar h l ≡ paymentByBarrier k bar w l
-  paid-same k NoBarrier l = payoff-same k (last l)
-  paid-same k (UpIn b) l = cc (payoff-same k (last l))
-  paid-same k (DownIn b) l = cc (payoff-same k (last l))
-  paid-same k (UpOut b) l = cc (payoff-same k (last l))
-  paid-same k (DownOut b) l = cc (payoff-same k (last l))
-
-pub same-paid :
-    (k : OptionType) (h w : Position) (l : List ℕ) → same h w ≡ true
-    → paymentByBarrier k (h .barrier) h l ≡ paymentByBarrier k (w .barrier) w l
-same-paid k h w l e =
+-- Terms that the first rule of Pairs calls the same are equal.
+pub same-terms : (h w : Terms) → same h w ≡ true → h ≡ w
+same-terms h w e =
     let pe = eqb (h .pe) (w .pe) in
     let lim = sameLimiter (h .limiter) (w .limiter) in
     let bar = sameBarrier (h .barrier) (w .barrier) in
     let x = and-eq-true-iff (pe && lim && bar) (eqb (h .reb) (w .reb)) .0 e in
     let y = and-eq-true-iff (pe && lim) bar .0 (x .0) in
     let z = and-eq-true-iff pe lim .0 (y .0) in
-    let same-pe = eqb-true (h .pe) (w .pe) (z .0) in
-    let same-lim = same-limiter (h .limiter) (w .limiter) (z .1) in
-    let same-reb = eqb-true (h .reb) (w .reb) (x .1) in
-    ap (λ b. paymentByBarrier k b h l) (same-barrier (h .barrier) (w .barrier) (y .1))
-    ∙ paid-same h w same-pe same-lim same-reb k (w .barrier) l
+    ap (λ n. record { pe = n; limiter = h .limiter; barrier = h .barrier; reb = h .reb }) (eqb-true (h .pe) (w .pe) (z .0))
+    ∙ ap (λ l. record { pe = w .pe; limiter = l; barrier = h .barrier; reb = h .reb }) (same-limiter (h .limiter) (w .limiter) (z .1))
+    ∙ ap (λ b. record { pe = w .pe; limiter = w .limiter; barrier = b; reb = h .reb }) (same-barrier (h .barrier) (w .barrier) (y .1))
+    ∙ ap (λ n. record { pe = w .pe; limiter = w .limiter; barrier = w .barrier; reb = n }) (eqb-true (h .reb) (w .reb) (x .1))
+
+pub same-paid :
+    (k : OptionType) (h w : Terms) (l : List ℕ) → same h w ≡ true
+    → paymentByBarrier k (h .barrier) h l ≡ paymentByBarrier k (w .barrier) w l
+same-paid k h w l e = ap (λ t. paymentByBarrier k (t .barrier) t l) (same-terms h w e)

@@ -104,14 +104,9 @@ termed side number european beforeAnnex pe =
     record {
       series = number;
       side = side;
-      barrier = NoBarrier;
-      limiter = NoLimiter;
-      knockedIn = false;
-      european = european;
-      beforeAnnex = beforeAnnex;
+      terms = record { pe = pe; limiter = NoLimiter; barrier = NoBarrier; reb = 0 };
+      flags = record { knockedIn = false; limited = false; european = european; beforeAnnex = beforeAnnex };
       q = 10;
-      pe = pe;
-      reb = 0;
       premium = 0;
     }
 

@@ -11,26 +11,22 @@ use lib.Dec.{eqb, ltb}
 use lib.ListN.{length}
 use Rattle.rules.specs.File.{distance, layout, positionCount, seriesCount, span, trailerSpare}
 use Rattle.rules.specs.Limits.{Placed, TrailerWithin}
-use Rattle.rules.specs.Refusals.{noPositions, nonzero, outside, refuse, trailerFault, wrongDistance, wrongSize, wrongTrailer}
+use Rattle.rules.specs.Refusals.{nonzero, outside, trailerChecks, trailerFault}
 use Rattle.rules.specs.declared.Fault.the-variants.{Clean}
 use Rattle.rules.specs.declared.Layout.{Layout}
-use Rattle.rules.specs.declared.Refusal.the-variants.{FileSize, Trailer, NoPositions, Distance}
-use Rattle.rules.proofs.Chain.{clean, in-range, inside, is-zero, none-of-three, passed, three-fail, zero-is}
+use Rattle.rules.proofs.Chain.{all-clean, all-pass, in-range, inside, is-zero, none-of-three, three-fail, zero-is}
 use Rattle.rules.proofs.Tests.{both-fail, neither}
 
 module _ (b : List ℕ) where
   pub trailer-within : trailerFault b ≡ Clean → TrailerWithin b
   unfolding trailerFault
   trailer-within e =
-      let e1 = passed (wrongSize b) FileSize (refuse (wrongTrailer b) Trailer (refuse (noPositions b) NoPositions (refuse (wrongDistance b) Distance Clean))) e in
-      let e2 = passed (wrongTrailer b) Trailer (refuse (noPositions b) NoPositions (refuse (wrongDistance b) Distance Clean)) (e1 .1) in
-      let e3 = passed (noPositions b) NoPositions (refuse (wrongDistance b) Distance Clean) (e2 .1) in
-      let e4 = passed (wrongDistance b) Distance Clean (e3 .1) in
-      let size = inside 12 65_536 (length b) (e1 .0) in
-      let counts = none-of-three (outside 1 32 (seriesCount b)) (ltb 256 (positionCount b)) (nonzero (trailerSpare b)) (e2 .0) in
+      let passes = all-pass (trailerChecks b) e in
+      let size = inside 12 65_536 (length b) (passes .0) in
+      let counts = none-of-three (outside 1 32 (seriesCount b)) (ltb 256 (positionCount b)) (nonzero (trailerSpare b)) (passes .1 .0) in
       let series = inside 1 32 (seriesCount b) (counts .0) in
-      let some = eqb-false (positionCount b) 0 (e3 .0) in
-      let far = neither (not (eqb (distance b) (span (seriesCount b) (positionCount b)))) (ltb (length b) (distance b)) (e4 .0) in
+      let some = eqb-false (positionCount b) 0 (passes .1 .1 .0) in
+      let far = neither (not (eqb (distance b) (span (seriesCount b) (positionCount b)))) (ltb (length b) (distance b)) (passes .1 .1 .1 .0) in
       record {
         size-least = size .0;
         size-most = size .1;
@@ -46,20 +42,24 @@ module _ (b : List ℕ) where
   pub trailer-clean : TrailerWithin b → trailerFault b ≡ Clean
   unfolding trailerFault
   trailer-clean h =
-      clean (wrongSize b) FileSize (refuse (wrongTrailer b) Trailer (refuse (noPositions b) NoPositions (refuse (wrongDistance b) Distance Clean)))
-      (in-range 12 65_536 (length b) (h .size-least) (h .size-most))
-      (clean (wrongTrailer b) Trailer (refuse (noPositions b) NoPositions (refuse (wrongDistance b) Distance Clean))
-      (three-fail (outside 1 32 (seriesCount b)) (ltb 256 (positionCount b)) (nonzero (trailerSpare b))
-      (in-range 1 32 (seriesCount b) (h .series-least) (h .series-most))
-      (le-ltb 256 (positionCount b) (h .positions-most))
-      (zero-is (trailerSpare b) (h .spare-zero)))
-      (clean (noPositions b) NoPositions (refuse (wrongDistance b) Distance Clean)
-      (ne-eqb (positionCount b) 0 (λ z. let some = h .positions-least in omega arith))
-      (clean (wrongDistance b) Distance Clean
-      (both-fail (not (eqb (distance b) (span (seriesCount b) (positionCount b)))) (ltb (length b) (distance b))
-      (ap not (eq-eqb (distance b) (span (seriesCount b) (positionCount b)) (h .distance-is)))
-      (le-ltb (length b) (distance b) (h .distance-most)))
-      refl)))
+      all-clean (trailerChecks b) (
+        (in-range 12 65_536 (length b) (h .size-least) (h .size-most)),
+        (
+          (three-fail (outside 1 32 (seriesCount b)) (ltb 256 (positionCount b)) (nonzero (trailerSpare b))
+              (in-range 1 32 (seriesCount b) (h .series-least) (h .series-most))
+              (le-ltb 256 (positionCount b) (h .positions-most))
+              (zero-is (trailerSpare b) (h .spare-zero))),
+          (
+            (ne-eqb (positionCount b) 0 (λ z. let some = h .positions-least in omega arith)),
+            (
+              (both-fail (not (eqb (distance b) (span (seriesCount b) (positionCount b)))) (ltb (length b) (distance b))
+                  (ap not (eq-eqb (distance b) (span (seriesCount b) (positionCount b)) (h .distance-is)))
+                  (le-ltb (length b) (distance b) (h .distance-most))),
+              tt,
+            ),
+          ),
+        ),
+      )
 
   pub placed : TrailerWithin b → Placed b (layout b)
   unfolding layout
@@ -72,6 +72,7 @@ module _ (b : List ℕ) where
         size-most = h .size-most;
         series-most = h .series-most;
         positions-most = h .positions-most;
+        width-is = refl;
         positions-start-is = refl;
         room = omega arith;
       }

@@ -6,6 +6,7 @@ use lib.Dec.{eqb}
 use lib.ListN.{length, getD}
 use Rattle.rules.specs.declared.Barrier.{Barrier}
 use Rattle.rules.specs.declared.Barrier.the-variants.{NoBarrier, UpIn, DownIn, UpOut, DownOut}
+use Rattle.rules.specs.declared.Flags.{Flags}
 use Rattle.rules.specs.declared.Layout.{Layout}
 use Rattle.rules.specs.declared.Limiter.{Limiter}
 use Rattle.rules.specs.declared.Limiter.the-variants.{NoLimiter, At}
@@ -17,6 +18,7 @@ use Rattle.rules.specs.declared.Series.{Series}
 use Rattle.rules.specs.declared.SeriesRow.{SeriesRow}
 use Rattle.rules.specs.declared.Side.{Side}
 use Rattle.rules.specs.declared.Side.the-variants.{Held, Written}
+use Rattle.rules.specs.declared.Terms.{Terms}
 
 -- A file is the list of its bytes. "little-endian": the low byte comes first. Past the end a byte counts as 0, so
 -- that every definition has a value; the reader never looks there.
@@ -47,9 +49,13 @@ distance b = u32At b (length b - 8)
 abbrev pub trailerSpare : List ℕ → ℕ
 trailerSpare b = u32At b (length b - 4)
 
+-- "Position row, 32 bytes"
+abbrev pub positionWidth : ℕ
+positionWidth = 32
+
 -- "equal to 12 + 24 × s + 32 × p"
 abbrev pub span : ℕ → ℕ → ℕ
-span s p = 12 + 24 * s + 32 * p
+span s p = 12 + 24 * s + positionWidth * p
 
 -- Where the tables stand, by the trailer. The position rows follow the series rows.
 unfoldable pub layout : List ℕ → Layout
@@ -59,6 +65,7 @@ layout b =
       positions = positionCount b;
       seriesStart = length b - distance b;
       positionsStart = length b - distance b + 24 * seriesCount b;
+      width = positionWidth;
     }
 
 -- "Series row, 24 bytes: PV u32 .. fa u32 .. fb u32 .. f3 u32 .. M u32 .. type u8 .. three zero bytes."
@@ -98,7 +105,7 @@ positionRowFrom b at =
 
 -- Position row i of a file with the layout l.
 unfoldable pub positionRow : List ℕ → Layout → ℕ → PositionRow
-positionRow b l i = positionRowFrom b (l .positionsStart + 32 * i)
+positionRow b l i = positionRowFrom b (l .positionsStart + l .width * i)
 
 -- "type u8, 0 call, 1 put"
 abbrev pub optionOf : ℕ → OptionType
@@ -115,21 +122,18 @@ barrierOf kind price =
     (cond (eqb kind 2) (DownIn price) (cond (eqb kind 3) (UpOut price) (cond (eqb kind 4) (DownOut price) NoBarrier)))
 
 -- "Flags: 1 already knocked in .. 2 has a limiter, 4 European, 8 opened before the annex"
-abbrev pub knockedInFlag : ℕ → Bool
-knockedInFlag flags = eqb (flags % 2) 1
-
-abbrev pub limiterFlag : ℕ → Bool
-limiterFlag flags = eqb (flags / 2 % 2) 1
-
-abbrev pub europeanFlag : ℕ → Bool
-europeanFlag flags = eqb (flags / 4 % 2) 1
-
-abbrev pub beforeAnnexFlag : ℕ → Bool
-beforeAnnexFlag flags = eqb (flags / 8 % 2) 1
+abbrev pub flagsOf : ℕ → Flags
+flagsOf n =
+    record {
+      knockedIn = eqb (n % 2) 1;
+      limited = eqb (n / 2 % 2) 1;
+      european = eqb (n / 4 % 2) 1;
+      beforeAnnex = eqb (n / 8 % 2) 1;
+    }
 
 -- "Without the limiter flag PB is 0. With it" PB is the limiter.
-abbrev pub limiterOf : ℕ → ℕ → Limiter
-limiterOf flags pb = cond (limiterFlag flags) (At pb) NoLimiter
+abbrev pub limiterOf : Bool → ℕ → Limiter
+limiterOf limited pb = cond limited (At pb) NoLimiter
 
 -- What a series row means.
 abbrev pub seriesOf : SeriesRow → Series
@@ -143,20 +147,25 @@ seriesOf r =
       option = optionOf (r .option);
     }
 
+-- The terms of a position row, as they stand there.
+abbrev pub termsOf : PositionRow → Terms
+termsOf r =
+    record {
+      pe = r .pe;
+      limiter = limiterOf (flagsOf (r .flags) .limited) (r .pb);
+      barrier = barrierOf (r .kind) (r .price);
+      reb = r .reb;
+    }
+
 -- What a position row means.
 abbrev pub positionOf : PositionRow → Position
 positionOf r =
     record {
       series = r .series;
       side = sideOf (r .side);
-      barrier = barrierOf (r .kind) (r .price);
-      limiter = limiterOf (r .flags) (r .pb);
-      knockedIn = knockedInFlag (r .flags);
-      european = europeanFlag (r .flags);
-      beforeAnnex = beforeAnnexFlag (r .flags);
+      terms = termsOf r;
+      flags = flagsOf (r .flags);
       q = r .q;
-      pe = r .pe;
-      reb = r .reb;
       premium = r .premium;
     }
 

@@ -4,7 +4,7 @@ use mathlib.Core.List.{List}
 use mathlib.Core.Logic.{_⊎_}
 use mathlib.Core.Path.{_≡_}
 use lib.ListN.{length}
-use Rattle.rules.specs.File.{distance, layout, positionCount, positionRow, seriesCount, seriesRow, span, trailerSpare}
+use Rattle.rules.specs.File.{distance, layout, positionCount, positionRow, positionWidth, seriesCount, seriesRow, span, trailerSpare}
 use Rattle.rules.specs.declared.Layout.{Layout}
 use Rattle.rules.specs.declared.PositionRow.{PositionRow}
 use Rattle.rules.specs.declared.SeriesRow.{SeriesRow}
@@ -77,10 +77,19 @@ pub record FileWithin (b : List ℕ) : Type 0 where
   pub series-rows : (i : ℕ) → i < seriesCount b → SeriesWithin (seriesRow b (layout b) i)
   pub position-rows : (i : ℕ) → i < positionCount b → PositionWithin (seriesCount b) (seriesRow b (layout b) (positionRow b (layout b) i .series)) (positionRow b (layout b) i)
 
+-- "series count s, u16, 1 to 32; position count p, u16, 1 to 256": the most series and rows there are, by the names that
+-- the code and its contracts use.
+abbrev pub mostSeries : ℕ
+mostSeries = 32
+
+abbrev pub mostPositions : ℕ
+mostPositions = 256
+
 -- The rows of a layout stand within the file, before its trailer. What every reader of a row requires.
 pub record Placed (b : List ℕ) (l : Layout) : Type 0 where
   pub size-most : length b ≤ 65_536
-  pub series-most : l .series ≤ 32
-  pub positions-most : l .positions ≤ 256
+  pub series-most : l .series ≤ mostSeries
+  pub positions-most : l .positions ≤ mostPositions
+  pub width-is : l .width ≡ positionWidth
   pub positions-start-is : l .positionsStart ≡ l .seriesStart + 24 * l .series
-  pub room : l .positionsStart + 32 * l .positions + 12 ≤ length b
+  pub room : l .positionsStart + positionWidth * l .positions + 12 ≤ length b

@@ -22,94 +22,82 @@ use Rattle.rules.specs.declared.Refusal.the-variants.{RowAskedFor}
 use Rattle.rules.specs.declared.Series.{Series}
 use Rattle.rules.specs.declared.Side.{Side}
 use Rattle.rules.specs.declared.Side.the-variants.{Held, Written}
+use Rattle.rules.specs.declared.Terms.{Terms}
 
 -- "Flag 1 makes the position one without barrier and with REB 0."
-abbrev pub knockedIn : Bool → Position → Position
-knockedIn false p = p
-knockedIn true p =
-    record {
-      series = p .series;
-      side = p .side;
-      barrier = NoBarrier;
-      limiter = p .limiter;
-      knockedIn = p .knockedIn;
-      european = p .european;
-      beforeAnnex = p .beforeAnnex;
-      q = p .q;
-      pe = p .pe;
-      reb = 0;
-      premium = p .premium;
-    }
+abbrev pub afterFlag1 : Bool → Terms → Terms
+afterFlag1 false t = t
+afterFlag1 true t = record { pe = t .pe; limiter = t .limiter; barrier = NoBarrier; reb = 0 }
 
--- The normalised position: after flag 1.
-abbrev pub normal : Position → Position
-normal p = knockedIn (p .knockedIn) p
+-- The normalised position: its terms after flag 1 is applied.
+abbrev pub normal : Position → Terms
+normal p = afterFlag1 (p .flags .knockedIn) (p .terms)
 
 -- REB in fine units.
-abbrev pub rebate : Position → ℕ
-rebate p = fine (p .reb)
+abbrev pub rebate : Terms → ℕ
+rebate t = fine (t .reb)
 
 -- "No limiter: PB = H for a call, L for a put." PB in fine units, where x is that H or L.
 abbrev pub limitOr : Limiter → ℕ → ℕ
 limitOr NoLimiter x = x
 limitOr (At pb) x = fine pb
 
-abbrev pub callLimit : Series → Position → ℕ
-callLimit s p = limitOr (p .limiter) (high s)
+abbrev pub callLimit : Series → Terms → ℕ
+callLimit s t = limitOr (t .limiter) (high s)
 
-abbrev pub putLimit : Series → Position → ℕ
-putLimit s p = limitOr (p .limiter) (low s)
+abbrev pub putLimit : Series → Terms → ℕ
+putLimit s t = limitOr (t .limiter) (low s)
 
 -- "Call payoff C = min(PB; H) − PE", at the H in force.
-abbrev pub callPayoff : Series → Position → ℕ → ℕ
-callPayoff s p h = min (callLimit s p) h - fine (p .pe)
+abbrev pub callPayoff : Series → Terms → ℕ → ℕ
+callPayoff s t h = min (callLimit s t) h - fine (t .pe)
 
 -- "put payoff P = PE − max(PB; L)", at the L in force.
-abbrev pub putPayoff : Series → Position → ℕ → ℕ
-putPayoff s p l = fine (p .pe) - max (putLimit s p) l
+abbrev pub putPayoff : Series → Terms → ℕ → ℕ
+putPayoff s t l = fine (t .pe) - max (putLimit s t) l
 
 -- The unit margin of a written call, by its barrier.
-abbrev pub callUnit : Barrier → Series → Position → ℕ
+abbrev pub callUnit : Barrier → Series → Terms → ℕ
 -- "Up-and-in with H < IU .. max(MM; REB)", otherwise max(MM; REB; C)
-callUnit (UpIn iu) s p =
-    cond (ltb (high s) (fine iu)) (max (minimum s) (rebate p)) (max (minimum s) (max (rebate p) (callPayoff s p (high s))))
+callUnit (UpIn iu) s t =
+    cond (ltb (high s) (fine iu)) (max (minimum s) (rebate t)) (max (minimum s) (max (rebate t) (callPayoff s t (high s))))
 -- "down-and-in with L > ID: max(MM; REB)"; "Call, down-and-in, L ≤ ID: from here H is ID × fa"
-callUnit (DownIn id) s p =
-    cond (ltb (fine id) (low s)) (max (minimum s) (rebate p)) (max (minimum s) (max (rebate p) (callPayoff s p (id * s .fa))))
+callUnit (DownIn id) s t =
+    cond (ltb (fine id) (low s)) (max (minimum s) (rebate t)) (max (minimum s) (max (rebate t) (callPayoff s t (id * s .fa))))
 -- "Down-and-out call: L > OD gives max(MM; C), else max(MM; REB; C)"
-callUnit (DownOut od) s p =
-    cond (ltb (fine od) (low s)) (max (minimum s) (callPayoff s p (high s)))
-    (max (minimum s) (max (rebate p) (callPayoff s p (high s))))
+callUnit (DownOut od) s t =
+    cond (ltb (fine od) (low s)) (max (minimum s) (callPayoff s t (high s)))
+    (max (minimum s) (max (rebate t) (callPayoff s t (high s))))
 -- "Up-and-out call: H < OU gives max(MM; C), else max(MM; REB; min(PB; OU) − PE)"
-callUnit (UpOut ou) s p =
-    cond (ltb (high s) (fine ou)) (max (minimum s) (callPayoff s p (high s)))
-    (max (minimum s) (max (rebate p) (callPayoff s p (fine ou))))
+callUnit (UpOut ou) s t =
+    cond (ltb (high s) (fine ou)) (max (minimum s) (callPayoff s t (high s)))
+    (max (minimum s) (max (rebate t) (callPayoff s t (fine ou))))
 -- "Otherwise max(MM; REB; C)"
-callUnit NoBarrier s p = max (minimum s) (max (rebate p) (callPayoff s p (high s)))
+callUnit NoBarrier s t = max (minimum s) (max (rebate t) (callPayoff s t (high s)))
 
 -- The unit margin of a written put, by its barrier.
-abbrev pub putUnit : Barrier → Series → Position → ℕ
+abbrev pub putUnit : Barrier → Series → Terms → ℕ
 -- "Up-and-in with H < IU .. max(MM; REB)"; "Put, up-and-in, H ≥ IU: from here L is IU × fb"
-putUnit (UpIn iu) s p =
-    cond (ltb (high s) (fine iu)) (max (minimum s) (rebate p)) (max (minimum s) (max (rebate p) (putPayoff s p (iu * s .fb))))
+putUnit (UpIn iu) s t =
+    cond (ltb (high s) (fine iu)) (max (minimum s) (rebate t)) (max (minimum s) (max (rebate t) (putPayoff s t (iu * s .fb))))
 -- "down-and-in with L > ID: max(MM; REB)", otherwise max(MM; REB; P)
-putUnit (DownIn id) s p =
-    cond (ltb (fine id) (low s)) (max (minimum s) (rebate p)) (max (minimum s) (max (rebate p) (putPayoff s p (low s))))
+putUnit (DownIn id) s t =
+    cond (ltb (fine id) (low s)) (max (minimum s) (rebate t)) (max (minimum s) (max (rebate t) (putPayoff s t (low s))))
 -- "Up-and-out put: H < OU gives max(MM; P), else max(MM; REB; P)"
-putUnit (UpOut ou) s p =
-    cond (ltb (high s) (fine ou)) (max (minimum s) (putPayoff s p (low s)))
-    (max (minimum s) (max (rebate p) (putPayoff s p (low s))))
+putUnit (UpOut ou) s t =
+    cond (ltb (high s) (fine ou)) (max (minimum s) (putPayoff s t (low s)))
+    (max (minimum s) (max (rebate t) (putPayoff s t (low s))))
 -- "Down-and-out put: L > OD gives max(MM; P), else max(MM; REB; PE − max(PB; OD))"
-putUnit (DownOut od) s p =
-    cond (ltb (fine od) (low s)) (max (minimum s) (putPayoff s p (low s)))
-    (max (minimum s) (max (rebate p) (putPayoff s p (fine od))))
+putUnit (DownOut od) s t =
+    cond (ltb (fine od) (low s)) (max (minimum s) (putPayoff s t (low s)))
+    (max (minimum s) (max (rebate t) (putPayoff s t (fine od))))
 -- "Otherwise .. max(MM; REB; P)"
-putUnit NoBarrier s p = max (minimum s) (max (rebate p) (putPayoff s p (low s)))
+putUnit NoBarrier s t = max (minimum s) (max (rebate t) (putPayoff s t (low s)))
 
 -- The rules of the series' type.
-abbrev pub unitBy : OptionType → Barrier → Series → Position → ℕ
-unitBy Call bar s p = callUnit bar s p
-unitBy Put bar s p = putUnit bar s p
+abbrev pub unitBy : OptionType → Barrier → Series → Terms → ℕ
+unitBy Call bar s t = callUnit bar s t
+unitBy Put bar s t = putUnit bar s t
 
 -- "Written, unit margin in fine units, first rule that applies", after flag 1.
 unfoldable pub unitMargin : Series → Position → ℕ

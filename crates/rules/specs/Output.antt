@@ -6,6 +6,7 @@ use mathlib.Core.Bool.{cond}
 use mathlib.Core.List.{List, [], _∷_, _++_}
 use lib.Dec.{eqb, ltb}
 use Rattle.rules.specs.File.{accountOf}
+use Rattle.rules.specs.Limits.{mostPositions}
 use Rattle.rules.specs.Lines.{linesGiven, marginAnswer, premiums}
 use Rattle.rules.specs.Refusals.{fileRead, number}
 use Rattle.rules.specs.declared.FileRead.{FileRead}
@@ -77,9 +78,9 @@ premiumsFor b (Accepted l) = premiums (accountOf b l)
 
 -- The output for an answer.
 abbrev pub answerText : List ℕ → MarginAnswer → List ℕ
-answerText b (Total n sum) = linesText (linesGiven b 256) ++ totalsText (premiumsFor b (fileRead b)) sum
+answerText b (Total n sum) = linesText (linesGiven b mostPositions) ++ totalsText (premiumsFor b (fileRead b)) sum
 answerText b (NoTotal w row) = refusedText (number w) row
 
--- The output for a file. A list of 256 entries is never too short.
+-- The output for a file. A list of as many entries as there are rows at most is never too short.
 unfoldable pub marginText : List ℕ → List ℕ
-marginText b = answerText b (marginAnswer b 256)
+marginText b = answerText b (marginAnswer b mostPositions)

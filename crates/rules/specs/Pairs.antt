@@ -26,7 +26,7 @@ isHeld Written = false
 
 -- "both European or opened before the annex": each row is one or the other.
 abbrev pub europeanOrBeforeAnnex : Position → Bool
-europeanOrBeforeAnnex p = p .european || p .beforeAnnex
+europeanOrBeforeAnnex p = p .flags .european || p .flags .beforeAnnex
 
 -- "the written unit margin is greater than the spread's". A barred pair has none.
 abbrev pub lowers : ℕ → Spread → Bool
@@ -45,7 +45,7 @@ mayPair s w h =
 
 -- "strike difference, without sign": one of the two differences is 0.
 abbrev pub strikeDifference : Position → Position → ℕ
-strikeDifference w h = (w .pe - h .pe) + (h .pe - w .pe)
+strikeDifference w h = (w .terms .pe - h .terms .pe) + (h .terms .pe - w .terms .pe)
 
 -- What pairing looks at: how many rows, whether written row w and held row h pair as long as both have contracts left,
 -- and their strike difference.

@@ -15,6 +15,7 @@ use Rattle.rules.specs.declared.OptionType.{OptionType}
 use Rattle.rules.specs.declared.OptionType.the-variants.{Call, Put}
 use Rattle.rules.specs.declared.Position.{Position}
 use Rattle.rules.specs.declared.Series.{Series}
+use Rattle.rules.specs.declared.Terms.{Terms}
 
 -- P holds of each price of a list.
 abbrev pub Every : (ℕ → Type 0) → List ℕ → Type 0
@@ -67,20 +68,20 @@ floored NoLimiter x = x
 floored (At pb) x = max (fine pb) x
 
 -- "max(0; min(PB; last) − PE) or max(0; PE − max(PB; last))", where x is the last price.
-abbrev pub payoffAt : OptionType → Position → ℕ → ℕ
+abbrev pub payoffAt : OptionType → Terms → ℕ → ℕ
 payoffAt Call p x = capped (p .limiter) x - fine (p .pe)
 payoffAt Put p x = fine (p .pe) - floored (p .limiter) x
 
 -- "A position pays REB per unit if .. never knocked in; else" its payoff at the last price.
-abbrev pub inPayment : OptionType → (ℕ → Bool) → Position → List ℕ → ℕ
+abbrev pub inPayment : OptionType → (ℕ → Bool) → Terms → List ℕ → ℕ
 inPayment k touches p l = cond (touched touches l) (payoffAt k p (last l)) (rebate p)
 
 -- "A position pays REB per unit if knocked out .. else" its payoff at the last price.
-abbrev pub outPayment : OptionType → (ℕ → Bool) → Position → List ℕ → ℕ
+abbrev pub outPayment : OptionType → (ℕ → Bool) → Terms → List ℕ → ℕ
 outPayment k touches p l = cond (touched touches l) (rebate p) (payoffAt k p (last l))
 
 -- What a normalised position pays on a path, by its barrier.
-abbrev pub paymentByBarrier : OptionType → Barrier → Position → List ℕ → ℕ
+abbrev pub paymentByBarrier : OptionType → Barrier → Terms → List ℕ → ℕ
 paymentByBarrier k NoBarrier p l = payoffAt k p (last l)
 paymentByBarrier k (UpIn iu) p l = inPayment k (atOrAbove iu) p l
 paymentByBarrier k (DownIn id) p l = inPayment k (atOrBelow id) p l

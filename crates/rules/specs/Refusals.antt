@@ -2,10 +2,10 @@
 -- file.
 use Prim.Native.Nat.{ℕ, zero, suc}
 use mathlib.Core.Bool.{Bool, true, false, not, _&&_, _||_}
-use mathlib.Core.List.{List}
+use mathlib.Core.List.{List, [], _∷_}
 use lib.Dec.{eqb, leb, ltb}
 use lib.ListN.{length}
-use Rattle.rules.specs.File.{Account, accountOf, distance, knockedInFlag, layout, limiterFlag, positionCount, positionOf, positionRow, seriesCount, seriesRow, span, trailerSpare}
+use Rattle.rules.specs.File.{Account, accountOf, distance, flagsOf, layout, positionCount, positionOf, positionRow, seriesCount, seriesRow, span, trailerSpare}
 use Rattle.rules.specs.declared.Fault.{Fault}
 use Rattle.rules.specs.declared.Fault.the-variants.{Clean, Found}
 use Rattle.rules.specs.declared.FileRead.{FileRead}
@@ -77,7 +77,7 @@ wrongSeriesType r = ltb 1 (r .option) || nonzero (r .spare)
 
 -- "Flags: 1 already knocked in (kinds 1 and 2 only) .. other bits zero." The four flags together are 15.
 abbrev pub wrongFlags : PositionRow → Bool
-wrongFlags r = ltb 15 (r .flags) || (knockedInFlag (r .flags) && outside 1 2 (r .kind))
+wrongFlags r = ltb 15 (r .flags) || (flagsOf (r .flags) .knockedIn && outside 1 2 (r .kind))
 
 -- 7: "series, side, kind, flags or a spare byte wrong": series below s; side 0 or 1; kind 0 to 4.
 abbrev pub wrongTerms : ℕ → PositionRow → Bool
@@ -102,9 +102,9 @@ wrongRange r =
 -- The first number is the series' type.
 abbrev pub wrongLimiter : ℕ → PositionRow → Bool
 wrongLimiter option r =
-    (not (limiterFlag (r .flags)) && nonzero (r .pb))
-    || (limiterFlag (r .flags) && eqb option 0 && (leb (r .pb) (r .pe) || ltb 10_000_000 (r .pb)))
-    || (limiterFlag (r .flags) && not (eqb option 0) && leb (r .pe) (r .pb))
+    (not (flagsOf (r .flags) .limited) && nonzero (r .pb))
+    || (flagsOf (r .flags) .limited && eqb option 0 && (leb (r .pb) (r .pe) || ltb 10_000_000 (r .pb)))
+    || (flagsOf (r .flags) .limited && not (eqb option 0) && leb (r .pe) (r .pb))
 
 -- 10: "barrier price outside its rule or range, or REB with kind 0". "Kind 0 has barrier price 0 and REB 0. Other
 -- kinds have a price of 1 to 10,000,000".
@@ -117,7 +117,7 @@ wrongBarrierPrice r =
 -- is set".
 abbrev pub wrongBarrierSide : ℕ → PositionRow → Bool
 wrongBarrierSide pv r =
-    not (knockedInFlag (r .flags))
+    not (flagsOf (r .flags) .knockedIn)
     && (((eqb (r .kind) 1 || eqb (r .kind) 3) && leb (r .price) pv)
     || ((eqb (r .kind) 2 || eqb (r .kind) 4) && leb pv (r .price)))
 
@@ -126,29 +126,52 @@ unfoldable pub refuse : Bool → Refusal → Fault → Fault
 refuse true w next = Found w
 refuse false w next = next
 
+-- A check: its test, which holds where the check fails, and the refusal given then.
+abbrev pub Check : Type 0
+Check = Bool × Refusal
+
+-- "Checked from top to bottom": the refusal of the first check that fails.
+abbrev pub firstFault : List Check → Fault
+firstFault [] = Clean
+firstFault ((test, w) ∷ later) = refuse test w (firstFault later)
+
 -- The trailer's rows of the table, 1 to 4.
+abbrev pub trailerChecks : List ℕ → List Check
+trailerChecks b =
+    (wrongSize b, FileSize)
+    ∷ (wrongTrailer b, Trailer)
+    ∷ (noPositions b, NoPositions)
+    ∷ (wrongDistance b, Distance)
+    ∷ []
+
 unfoldable pub trailerFault : List ℕ → Fault
-trailerFault b =
-    refuse (wrongSize b) FileSize
-    (refuse (wrongTrailer b) Trailer
-    (refuse (noPositions b) NoPositions
-    (refuse (wrongDistance b) Distance Clean)))
+trailerFault b = firstFault (trailerChecks b)
 
 -- A series row's, 5 and 6.
+abbrev pub seriesRowChecks : SeriesRow → List Check
+seriesRowChecks r = (wrongSeriesRange r, SeriesRange) ∷ (wrongSeriesType r, SeriesType) ∷ []
+
 unfoldable pub seriesRowFault : SeriesRow → Fault
-seriesRowFault r = refuse (wrongSeriesRange r) SeriesRange (refuse (wrongSeriesType r) SeriesType Clean)
+seriesRowFault r = firstFault (seriesRowChecks r)
 
 -- A position row's from 8 on: the checks that look at the row's series, which refusal 7 has shown to be there.
+abbrev pub matchedChecks : SeriesRow → PositionRow → List Check
+matchedChecks k r =
+    (wrongRange r, PositionRange)
+    ∷ (wrongLimiter (k .option) r, LimiterPrice)
+    ∷ (wrongBarrierPrice r, BarrierPrice)
+    ∷ (wrongBarrierSide (k .pv) r, BarrierSide)
+    ∷ []
+
 unfoldable pub matchedFault : SeriesRow → PositionRow → Fault
-matchedFault k r =
-    refuse (wrongRange r) PositionRange
-    (refuse (wrongLimiter (k .option) r) LimiterPrice
-    (refuse (wrongBarrierPrice r) BarrierPrice
-    (refuse (wrongBarrierSide (k .pv) r) BarrierSide Clean)))
+matchedFault k r = firstFault (matchedChecks k r)
 
 -- A position row's, 7 to 11: s is the number of series, k the row's series.
+abbrev pub positionRowChecks : ℕ → SeriesRow → PositionRow → List Check
+positionRowChecks s k r = (wrongTerms s r, PositionTerms) ∷ matchedChecks k r
+
 unfoldable pub positionRowFault : ℕ → SeriesRow → PositionRow → Fault
-positionRowFault s k r = refuse (wrongTerms s r) PositionTerms (matchedFault k r)
+positionRowFault s k r = firstFault (positionRowChecks s k r)
 
 -- The fault of series row i of a file, and of position row i.
 abbrev pub seriesFault : List ℕ → Layout → ℕ → Fault

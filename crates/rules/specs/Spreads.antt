@@ -14,6 +14,7 @@ use Rattle.rules.specs.declared.Position.{Position}
 use Rattle.rules.specs.declared.Series.{Series}
 use Rattle.rules.specs.declared.Spread.{Spread}
 use Rattle.rules.specs.declared.Spread.the-variants.{Barred, Margin}
+use Rattle.rules.specs.declared.Terms.{Terms}
 
 -- A barrier's kind and price, the numbers of the position row.
 abbrev pub kindOf : Barrier → ℕ
@@ -42,7 +43,7 @@ sameLimiter (At pbh) NoLimiter = false
 sameLimiter (At pbh) (At pbw) = eqb pbh pbw
 
 -- "Same PE, limiter, barrier and REB after flag 1 is applied" (annex section 5, a)
-abbrev pub same : Position → Position → Bool
+abbrev pub same : Terms → Terms → Bool
 same h w =
     eqb (h .pe) (w .pe)
     && sameLimiter (h .limiter) (w .limiter)
@@ -59,22 +60,22 @@ abbrev pub limiterBars : Limiter → Limiter → Bool
 limiterBars h w = hasLimiter h || hasLimiter w
 
 -- "No barriers: max(0; PEh − PEw) for calls, max(0; PEw − PEh) for puts." (annex section 5, b and c)
-abbrev pub strikeLoss : OptionType → Position → Position → ℕ
+abbrev pub strikeLoss : OptionType → Terms → Terms → ℕ
 strikeLoss Call h w = fine (h .pe) - fine (w .pe)
 strikeLoss Put h w = fine (w .pe) - fine (h .pe)
 
 -- "Call with PEh ≤ PEw, put with PEh ≥ PEw"
-abbrev pub strikeCovers : OptionType → Position → Position → Bool
+abbrev pub strikeCovers : OptionType → Terms → Terms → Bool
 strikeCovers Call h w = leb (h .pe) (w .pe)
 strikeCovers Put h w = leb (w .pe) (h .pe)
 
 -- "R = REBw, or max(0; REBw − REBh) where the barriers are equal" (annex section 5, items d.1, e.1, f.1 and g.1)
-abbrev pub R : Bool → Position → Position → ℕ
+abbrev pub R : Bool → Terms → Terms → ℕ
 R barriersEqual h w = cond barriersEqual (rebate w - rebate h) (rebate w)
 
 -- "for calls D = min(PEh; H) − PEw .. for puts D = PEw − max(PEh; L)", at the L and H in force (items 4 and 5 of d, e, f
 -- and g).
-abbrev pub D : OptionType → ℕ → ℕ → Position → Position → ℕ
+abbrev pub D : OptionType → ℕ → ℕ → Terms → Terms → ℕ
 D Call l h held w = min (fine (held .pe)) h - fine (w .pe)
 D Put l h held w = fine (w .pe) - max (fine (held .pe)) l
 
@@ -94,19 +95,19 @@ abbrev pub upReached : Series → ℕ → Bool
 upReached s ouw = leb (fine ouw) (high s)
 
 -- Both down-and-out (annex section 5, d for calls and f for puts): "L replaced by ODw where that is reachable".
-abbrev pub downOutSpread : Series → ℕ → ℕ → Position → Position → ℕ
+abbrev pub downOutSpread : Series → ℕ → ℕ → Terms → Terms → ℕ
 downOutSpread s odh odw h w =
     outSpread (strikeCovers (s .option) h w) (downReached s odw) s (R (eqb odh odw) h w)
     (D (s .option) (cond (downReached s odw) (fine odw) (low s)) (high s) h w)
 
 -- Both up-and-out (annex section 5, e for calls and g for puts): "H replaced by OUw where that is reachable".
-abbrev pub upOutSpread : Series → ℕ → ℕ → Position → Position → ℕ
+abbrev pub upOutSpread : Series → ℕ → ℕ → Terms → Terms → ℕ
 upOutSpread s ouh ouw h w =
     outSpread (strikeCovers (s .option) h w) (upReached s ouw) s (R (eqb ouh ouw) h w)
     (D (s .option) (low s) (cond (upReached s ouw) (fine ouw) (high s)) h w)
 
 -- Two rows whose barriers are of one kind: the written row's barrier and the held row's barrier price.
-abbrev pub oneKindSpread : Barrier → ℕ → Series → Position → Position → Spread
+abbrev pub oneKindSpread : Barrier → ℕ → Series → Terms → Terms → Spread
 oneKindSpread NoBarrier heldPrice s h w = Margin (strikeLoss (s .option) h w)
 oneKindSpread (UpIn iuw) heldPrice s h w = Barred
 oneKindSpread (DownIn idw) heldPrice s h w = Barred
@@ -116,7 +117,7 @@ oneKindSpread (UpOut ouw) ouh s h w = cond (leb ouw ouh) (Margin (upOutSpread s 
 oneKindSpread (DownOut odw) odh s h w = cond (leb odh odw) (Margin (downOutSpread s odh odw h w)) Barred
 
 -- The rules in document 01's order, of normalised positions. "Nothing else pairs."
-abbrev pub spreadBetween : Series → Position → Position → Spread
+abbrev pub spreadBetween : Series → Terms → Terms → Spread
 spreadBetween s h w =
     cond (same h w) (Margin 0)
     (cond (limiterBars (h .limiter) (w .limiter)) Barred

@@ -64,29 +64,40 @@ pub struct Series {
     pub option: OptionType,
 }
 
-// What a position row means. The four flags stand in `knockedIn` (1), `limiter` (2), `european` (4) and `beforeAnnex`
-// (8, opened before the annex).
+// What a pair compares, and what a margin or a payment is worked out from: strike, limiter, barrier and rebate.
+pub struct Terms {
+    pub pe: u32,
+    pub limiter: Limiter,
+    pub barrier: Barrier,
+    pub reb: u32,
+}
+
+// A position row's flags, 1, 2, 4 and 8: already knocked in, has a limiter, European, opened before the annex.
+pub struct Flags {
+    pub knockedIn: bool,
+    pub limited: bool,
+    pub european: bool,
+    pub beforeAnnex: bool,
+}
+
+// What a position row means. Its terms are as they stand in the row: flag 1 is not applied to them yet.
 pub struct Position {
     pub series: u32,
     pub side: Side,
-    pub barrier: Barrier,
-    pub limiter: Limiter,
-    pub knockedIn: bool,
-    pub european: bool,
-    pub beforeAnnex: bool,
+    pub terms: Terms,
+    pub flags: Flags,
     pub q: u32,
-    pub pe: u32,
-    pub reb: u32,
     pub premium: u32,
 }
 
-// Where a file's tables stand: how many series and positions, and at which byte the first series row and the first
-// position row begin.
+// Where a file's tables stand: how many series and positions, at which byte the first series row and the first position
+// row begin, and how many bytes a position row has.
 pub struct Layout {
     pub series: usize,
     pub positions: usize,
     pub seriesStart: usize,
     pub positionsStart: usize,
+    pub width: usize,
 }
 
 // Why a file or a call is turned back, in the order of document 01's table.

@@ -9,14 +9,14 @@ use position::quantities::low_price;
 use position::quantities::minimum_margin;
 use position::quantities::rebate_of;
 use rules::OptionType;
-use rules::Position;
 use rules::Series;
+use rules::Terms;
 ghost use mathlib.Core.Bool.{cond};
 ghost use mathlib.Core.Path.{_≡_};
 ghost use Rattle.rules.specs.Spreads.{downOutSpread, D, outSpread, R, upOutSpread};
 
 // R: REBw, or max(0; REBw − REBh) where the barriers are equal.
-fn rebate_loss(equal: bool, h: Position, w: Position) -> u64
+fn rebate_loss(equal: bool, h: Terms, w: Terms) -> u64
     ensures { λ r. ⌜ r ≡ R equal h w ⌝ }
 {
     if equal {
@@ -26,7 +26,7 @@ fn rebate_loss(equal: bool, h: Position, w: Position) -> u64
 }
 
 // D at the low and high price in force.
-fn out_loss(option: OptionType, low: u64, high: u64, h: Position, w: Position) -> u64
+fn out_loss(option: OptionType, low: u64, high: u64, h: Terms, w: Terms) -> u64
     ensures { λ r. ⌜ r ≡ D option low high h w ⌝ }
 {
     match option {
@@ -59,7 +59,7 @@ fn replaced(reachable: bool, barrier: u64, price: u64) -> u64
 }
 
 // Both down-and-out: the held barrier's price and the written one's.
-pub fn down_out_spread(s: Series, odh: u32, odw: u32, h: Position, w: Position) -> u64
+pub fn down_out_spread(s: Series, odh: u32, odw: u32, h: Terms, w: Terms) -> u64
     ensures { λ r. ⌜ r ≡ downOutSpread s odh odw h w ⌝ }
 {
     let option = s.option;
@@ -79,7 +79,7 @@ pub fn down_out_spread(s: Series, odh: u32, odw: u32, h: Position, w: Position) 
 }
 
 // Both up-and-out.
-pub fn up_out_spread(s: Series, ouh: u32, ouw: u32, h: Position, w: Position) -> u64
+pub fn up_out_spread(s: Series, ouh: u32, ouw: u32, h: Terms, w: Terms) -> u64
     ensures { λ r. ⌜ r ≡ upOutSpread s ouh ouw h w ⌝ }
 {
     let option = s.option;

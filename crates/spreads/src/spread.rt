@@ -2,23 +2,25 @@
 use crate::out::down_out_spread;
 use crate::out::up_out_spread;
 use crate::terms::has_limiter;
+use crate::terms::is_knock_in;
 use crate::terms::kind_of;
 use crate::terms::price_of;
 use crate::terms::same_terms;
 use numbers::fine_units;
 use numbers::less;
-use position::quantities::normalised;
 use rules::Barrier;
 use rules::OptionType;
-use rules::Position;
 use rules::Series;
 use rules::Spread;
+use rules::Terms;
 ghost use mathlib.Core.Path.{_≡_};
-ghost use Rattle.rules.specs.Spreads.{oneKindSpread, spreadBetween, strikeLoss, unitSpread};
+ghost use mathlib.Core.Bool.{cond};
+ghost use Rattle.rules.specs.Spreads.{oneKindSpread, same, spreadBetween, strikeLoss};
 ghost use Rattle.rules.specs.declared.Barrier.the-variants.{DownOut, UpOut};
+ghost use Rattle.rules.specs.declared.Spread.the-variants.{Barred, Margin};
 
 // No barriers: max(0; PEh − PEw) for calls, max(0; PEw − PEh) for puts.
-fn strike_loss(option: OptionType, h: Position, w: Position) -> u64
+fn strike_loss(option: OptionType, h: Terms, w: Terms) -> u64
     ensures { λ r. ⌜ r ≡ strikeLoss option h w ⌝ }
 {
     match option {
@@ -28,7 +30,7 @@ fn strike_loss(option: OptionType, h: Position, w: Position) -> u64
 }
 
 // Both up-and-out pair with OUh ≥ OUw.
-fn both_up_out(ouw: u32, ouh: u32, s: Series, h: Position, w: Position) -> Spread
+fn both_up_out(ouw: u32, ouh: u32, s: Series, h: Terms, w: Terms) -> Spread
     ensures { λ r. ⌜ r ≡ oneKindSpread (UpOut ouw) ouh s h w ⌝ }
 {
     if ouw <= ouh {
@@ -38,7 +40,7 @@ fn both_up_out(ouw: u32, ouh: u32, s: Series, h: Position, w: Position) -> Sprea
 }
 
 // Both down-and-out pair with ODh ≤ ODw.
-fn both_down_out(odw: u32, odh: u32, s: Series, h: Position, w: Position) -> Spread
+fn both_down_out(odw: u32, odh: u32, s: Series, h: Terms, w: Terms) -> Spread
     ensures { λ r. ⌜ r ≡ oneKindSpread (DownOut odw) odh s h w ⌝ }
 {
     if odh <= odw {
@@ -48,7 +50,7 @@ fn both_down_out(odw: u32, odh: u32, s: Series, h: Position, w: Position) -> Spr
 }
 
 // Two rows whose barriers are of one kind: the written barrier and the held barrier's price.
-fn one_kind_spread(barrier: Barrier, held: u32, s: Series, h: Position, w: Position) -> Spread
+fn one_kind_spread(barrier: Barrier, held: u32, s: Series, h: Terms, w: Terms) -> Spread
     ensures { λ r. ⌜ r ≡ oneKindSpread barrier held s h w ⌝ }
 {
     let option = s.option;
@@ -61,29 +63,33 @@ fn one_kind_spread(barrier: Barrier, held: u32, s: Series, h: Position, w: Posit
     }
 }
 
-// The rules in document 01's order, of normalised positions.
-fn spread_between(s: Series, h: Position, w: Position) -> Spread
-    ensures { λ r. ⌜ r ≡ spreadBetween s h w ⌝ }
+// Rows that pair with identical rows only: 0 for those, no pair for others.
+fn identical_spread(h: Terms, w: Terms) -> Spread
+    ensures { λ r. ⌜ r ≡ cond (same h w) (Margin 0) Barred ⌝ }
 {
     if same_terms(h, w) {
         return Spread::Margin(0);
     }
-    let held = h.limiter;
-    let written = w.limiter;
-    if has_limiter(held) | has_limiter(written) {
-        return Spread::Barred;
-    }
-    let held = h.barrier;
-    let written = w.barrier;
-    if kind_of(held) == kind_of(written) {
-        return one_kind_spread(written, price_of(held), s, h, w);
-    }
     Spread::Barred
 }
 
-// The unit spread margin of a held and a written row, in fine units, or no pair.
-pub fn unit_spread(s: Series, h: Position, w: Position) -> Spread
-    ensures { λ r. ⌜ r ≡ unitSpread s h w ⌝ }
+// The unit spread margin of a held and a written row, of normalised positions, or no pair. Identical rows are asked for
+// only where no other rows pair: elsewhere the rules give them 0 by themselves.
+pub fn spread_between(s: Series, h: Terms, w: Terms) -> Spread
+    ensures { λ r. ⌜ r ≡ spreadBetween s h w ⌝ }
 {
-    spread_between(s, normalised(h), normalised(w))
+    let held = h.limiter;
+    let written = w.limiter;
+    if has_limiter(held) | has_limiter(written) {
+        return identical_spread(h, w);
+    }
+    let held = h.barrier;
+    let written = w.barrier;
+    if kind_of(held) != kind_of(written) {
+        return Spread::Barred;
+    }
+    if is_knock_in(written) {
+        return identical_spread(h, w);
+    }
+    one_kind_spread(written, price_of(held), s, h, w)
 }

@@ -4,9 +4,11 @@ use rules::Limiter;
 use rules::OptionType;
 use rules::Position;
 use rules::Side;
+use rules::Terms;
 ghost use mathlib.Core.Path.{_≡_};
+ghost use Rattle.rules.proofs.SpreadForms.{knockIn};
 ghost use Rattle.rules.specs.Pairs.{europeanOrBeforeAnnex, isHeld, isWritten};
-ghost use Rattle.rules.specs.Spreads.{hasLimiter, kindOf, priceOf, same, sameLimiter, strikeCovers};
+ghost use Rattle.rules.specs.Spreads.{hasLimiter, kindOf, priceOf, same, sameBarrier, sameLimiter, strikeCovers};
 
 pub fn kind_of(barrier: Barrier) -> u32
     ensures { λ r. ⌜ r ≡ kindOf barrier ⌝ }
@@ -57,8 +59,51 @@ fn same_limiter(h: Limiter, w: Limiter) -> bool
     }
 }
 
+// The same kind of barrier at the same price.
+fn same_barrier(h: Barrier, w: Barrier) -> bool
+    ensures { λ r. ⌜ r ≡ sameBarrier h w ⌝ }
+{
+    match h {
+        Barrier::NoBarrier => match w {
+            Barrier::NoBarrier => true,
+            Barrier::UpIn(_) => false,
+            Barrier::DownIn(_) => false,
+            Barrier::UpOut(_) => false,
+            Barrier::DownOut(_) => false,
+        },
+        Barrier::UpIn(held) => match w {
+            Barrier::NoBarrier => false,
+            Barrier::UpIn(written) => held == written,
+            Barrier::DownIn(_) => false,
+            Barrier::UpOut(_) => false,
+            Barrier::DownOut(_) => false,
+        },
+        Barrier::DownIn(held) => match w {
+            Barrier::NoBarrier => false,
+            Barrier::UpIn(_) => false,
+            Barrier::DownIn(written) => held == written,
+            Barrier::UpOut(_) => false,
+            Barrier::DownOut(_) => false,
+        },
+        Barrier::UpOut(held) => match w {
+            Barrier::NoBarrier => false,
+            Barrier::UpIn(_) => false,
+            Barrier::DownIn(_) => false,
+            Barrier::UpOut(written) => held == written,
+            Barrier::DownOut(_) => false,
+        },
+        Barrier::DownOut(held) => match w {
+            Barrier::NoBarrier => false,
+            Barrier::UpIn(_) => false,
+            Barrier::DownIn(_) => false,
+            Barrier::UpOut(_) => false,
+            Barrier::DownOut(written) => held == written,
+        },
+    }
+}
+
 // Same PE, limiter, barrier and REB.
-pub fn same_terms(h: Position, w: Position) -> bool
+pub fn same_terms(h: Terms, w: Terms) -> bool
     ensures { λ r. ⌜ r ≡ same h w ⌝ }
 {
     let held = h.limiter;
@@ -66,13 +111,25 @@ pub fn same_terms(h: Position, w: Position) -> bool
     let limiters = same_limiter(held, written);
     let held = h.barrier;
     let written = w.barrier;
-    let kinds = kind_of(held) == kind_of(written);
-    let prices = price_of(held) == price_of(written);
-    (h.pe == w.pe) & limiters & (kinds & prices) & (h.reb == w.reb)
+    let barriers = same_barrier(held, written);
+    (h.pe == w.pe) & limiters & barriers & (h.reb == w.reb)
+}
+
+// Whether a barrier is up-and-in or down-and-in.
+pub fn is_knock_in(barrier: Barrier) -> bool
+    ensures { λ r. ⌜ r ≡ knockIn barrier ⌝ }
+{
+    match barrier {
+        Barrier::NoBarrier => false,
+        Barrier::UpIn(_) => true,
+        Barrier::DownIn(_) => true,
+        Barrier::UpOut(_) => false,
+        Barrier::DownOut(_) => false,
+    }
 }
 
 // Call with PEh ≤ PEw, put with PEh ≥ PEw.
-pub fn strike_covers(option: OptionType, h: Position, w: Position) -> bool
+pub fn strike_covers(option: OptionType, h: Terms, w: Terms) -> bool
     ensures { λ r. ⌜ r ≡ strikeCovers option h w ⌝ }
 {
     match option {
@@ -102,5 +159,6 @@ pub fn is_held(side: Side) -> bool
 pub fn european_or_before_annex(p: Position) -> bool
     ensures { λ r. ⌜ r ≡ europeanOrBeforeAnnex p ⌝ }
 {
-    p.european | p.beforeAnnex
+    let flags = p.flags;
+    flags.european | flags.beforeAnnex
 }

@@ -1,4 +1,3 @@
-use Rattle.account.proofs.KnownRows.{placed}
 use Rattle.account.proofs.lookup.position_at.Statement.{statement}
 use Rattle.account.proofs.lookup.position_at.Tie as tie
 use Rattle.rules.specs.File.{positionOf}
@@ -6,7 +5,7 @@ use borrow.Author.Needs.{needs}
 use mathlib.Core.Path.{ap, _∙_}
 
 position-row-requires : tie.Need-position-row-requires
-position-row-requires c κs = (placed _ _ (c .before .pre .0), c .before .pre .1)
+position-row-requires c κs = ((c .before .pre .0) .placed, c .before .pre .1)
 
 position-of-requires : tie.Need-position-of-requires
 position-of-requires c κs = search needs

@@ -1,4 +1,3 @@
-use Rattle.account.proofs.KnownRows.{placed}
 use Rattle.account.proofs.lookup.series_of_position.Statement.{statement}
 use Rattle.account.proofs.lookup.series_of_position.Tie as tie
 use Rattle.rules.specs.File.{seriesOf}
@@ -9,7 +8,7 @@ cast-series-row : tie.Need-cast-series-row
 cast-series-row c = search needs
 
 series-row-requires : tie.Need-series-row-requires
-series-row-requires c κs = (placed _ _ (c .before .before .pre .0), c .before .before .pre .1)
+series-row-requires c κs = ((c .before .before .pre .0) .placed, c .before .before .pre .1)
 
 series-of-requires : tie.Need-series-of-requires
 series-of-requires c κs = search needs

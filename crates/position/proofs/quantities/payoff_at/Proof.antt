@@ -18,10 +18,10 @@ put-payoff-requires : tie.Need-put-payoff-requires
 put-payoff-requires c κs = search needs
 
 returns : tie.Need-returns
-returns c = let a = c .before .before .before .args in c .call-payoff .ensures ∙ sym (ap (λ (k : OptionType). charge k (a .s) (a .p) (a .x)) (c .before .enum-told .given .1))
+returns c = let a = c .before .before .before .args in c .call-payoff .ensures ∙ sym (ap (λ (k : OptionType). charge k (a .s) (a .t) (a .x)) (c .before .enum-told .given .1))
 
 returns-2 : tie.Need-returns-2
-returns-2 c = let a = c .before .before .before .args in c .put-payoff .ensures ∙ sym (ap (λ (k : OptionType). charge k (a .s) (a .p) (a .x)) (c .before .enum-told2 .given .1))
+returns-2 c = let a = c .before .before .before .args in c .put-payoff .ensures ∙ sym (ap (λ (k : OptionType). charge k (a .s) (a .t) (a .x)) (c .before .enum-told2 .given .1))
 
 pub payoff-at-spec : {M : Type 1} → statement M
 payoff-at-spec =

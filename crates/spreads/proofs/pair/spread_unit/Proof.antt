@@ -1,12 +1,15 @@
 use Rattle.rules.specs.File.{accountOf}
 use Rattle.rules.specs.Lines.{spreadUnit}
+use Rattle.rules.specs.OnePosition.{normal}
+use Rattle.rules.specs.Spreads.{spreadBetween, unitSpread}
 use Rattle.rules.specs.declared.Spread.{Spread}
+use Rattle.rules.specs.declared.Terms.{Terms}
 use Rattle.spreads.proofs.Rows.{read-series-below, spread-at}
 use Rattle.spreads.proofs.pair.spread_unit.Statement.{statement}
 use Rattle.spreads.proofs.pair.spread_unit.Tie as tie
 use borrow.Author.Needs.{needs}
 use denote.Ref.{now}
-use mathlib.Core.Path.{ap, _∙_}
+use mathlib.Core.Path.{_∙_, ap, ap₂}
 
 position-at-requires : tie.Need-position-at-requires
 position-at-requires c κs = search needs
@@ -15,16 +18,23 @@ position-at-requires-2 : tie.Need-position-at-requires-2
 position-at-requires-2 c κs = search needs
 
 series-of-position-requires : tie.Need-series-of-position-requires
-series-of-position-requires c κs = let a = c .before .before .before .args in (c .before .before .before .pre .0, read-series-below (now (a .file)) (a .l) (c .before .before .before .pre .0) (a .w) (c .before .before .before .pre .1) _ (c .before .position-at .ensures))
+series-of-position-requires c κs = (c .before .before .before .pre .0, read-series-below (now (c .before .before .before .args .file)) (c .before .before .before .args .l) (c .before .before .before .pre .0) (c .before .before .before .args .w) (c .before .before .before .pre .1) _ (c .before .position-at .ensures))
 
-unit-spread-requires : tie.Need-unit-spread-requires
-unit-spread-requires c κs = search needs
+normalised-requires : tie.Need-normalised-requires
+normalised-requires c κs = search needs
+
+normalised-requires-2 : tie.Need-normalised-requires-2
+normalised-requires-2 c κs = search needs
+
+spread-between-requires : tie.Need-spread-between-requires
+spread-between-requires c κs = search needs
 
 unit-of-requires : tie.Need-unit-of-requires
 unit-of-requires c κs = search needs
 
 returns : tie.Need-returns
-returns c = let a = c .before .before .before .before .before .before .args in c .unit-of .ensures ∙ ap (λ (x : Spread). spreadUnit x) (spread-at (accountOf (now (a .file)) (a .l)) (a .w) (a .h) _ _ (c .before .before .before .before .position-at .ensures) (c .before .before .before .position-at2 .ensures) _ (c .before .before .series-of-position .ensures) _ (c .before .unit-spread .ensures))
+unfolding unitSpread
+returns c = c .unit-of .ensures ∙ ap (λ (x : Spread). spreadUnit x) (spread-at (accountOf (now (c .before .before .before .before .before .before .before .before .args .file)) (c .before .before .before .before .before .before .before .before .args .l)) (c .before .before .before .before .before .before .before .before .args .w) (c .before .before .before .before .before .before .before .before .args .h) _ _ (c .before .before .before .before .before .before .position-at .ensures) (c .before .before .before .before .before .position-at2 .ensures) _ (c .before .before .before .before .series-of-position .ensures) _ (c .before .spread-between .ensures ∙ ap₂ (λ (x y : Terms). spreadBetween (c .before .before .before .before .series-of-position .result) x y) (c .before .before .before .normalised .ensures) (c .before .before .normalised2 .ensures)))
 
 pub spread-unit-spec : {M : Type 1} → statement M
 spread-unit-spec =
@@ -33,6 +43,8 @@ spread-unit-spec =
     position-at-requires
     position-at-requires-2
     series-of-position-requires
-    unit-spread-requires
+    normalised-requires
+    normalised-requires-2
+    spread-between-requires
     unit-of-requires
     returns)

@@ -1,5 +1,6 @@
-// The tests of a row, each the Bool that its definition is: no branch, so that code and definition are read side by
-// side.
+// The checks of a row, each test the Bool that its definition is: no branch, so that code and definition are read side
+// by side.
+use crate::values::flags_of;
 use rules::PositionRow;
 use rules::SeriesRow;
 ghost use mathlib.Core.Path.{_≡_};
@@ -24,10 +25,11 @@ pub fn wrong_series_type(r: SeriesRow) -> bool
 pub fn wrong_terms(s: usize, r: PositionRow) -> bool
     ensures { λ t. ⌜ t ≡ wrongTerms s r ⌝ }
 {
+    let flags = flags_of(r.flags);
     (s <= (r.series as usize))
         | (1 < r.side)
         | (4 < r.kind)
-        | ((15 < r.flags) | ((r.flags % 2 == 1) & ((r.kind < 1) | (2 < r.kind))))
+        | ((15 < r.flags) | (flags.knockedIn & ((r.kind < 1) | (2 < r.kind))))
         | !(r.spare == 0)
 }
 
@@ -44,9 +46,10 @@ pub fn wrong_range(r: PositionRow) -> bool
 pub fn wrong_limiter(option: u32, r: PositionRow) -> bool
     ensures { λ t. ⌜ t ≡ wrongLimiter option r ⌝ }
 {
-    (!(r.flags / 2 % 2 == 1) & !(r.pb == 0))
-        | ((r.flags / 2 % 2 == 1) & (option == 0) & ((r.pb <= r.pe) | (10_000_000 < r.pb)))
-        | ((r.flags / 2 % 2 == 1) & !(option == 0) & (r.pe <= r.pb))
+    let flags = flags_of(r.flags);
+    (!flags.limited & !(r.pb == 0))
+        | (flags.limited & (option == 0) & ((r.pb <= r.pe) | (10_000_000 < r.pb)))
+        | (flags.limited & !(option == 0) & (r.pe <= r.pb))
 }
 
 pub fn wrong_barrier_price(r: PositionRow) -> bool
@@ -59,7 +62,8 @@ pub fn wrong_barrier_price(r: PositionRow) -> bool
 pub fn wrong_barrier_side(pv: u32, r: PositionRow) -> bool
     ensures { λ t. ⌜ t ≡ wrongBarrierSide pv r ⌝ }
 {
-    !(r.flags % 2 == 1)
+    let flags = flags_of(r.flags);
+    !flags.knockedIn
         & ((((r.kind == 1) | (r.kind == 3)) & (r.price <= pv))
             | (((r.kind == 2) | (r.kind == 4)) & (pv <= r.price)))
 }

@@ -1,0 +1,99 @@
+-- The spread rule in the order that costs least: identical rows are asked for only where no other rows pair, since
+-- elsewhere the rules give them 0 by themselves.
+-- Assumes nothing.
+use Prim.Native.Nat.{ℕ, _-_}
+use mathlib.Core.Bool.{Bool, true, false, cond, false≢true, true≢false}
+use mathlib.Core.Path.{_≡_, refl, sym, ap, _∙_}
+use native.Mathlib.Nat.{le-refl}
+use native.Mathlib.Omega.{arith}
+use borrow.Author.Tests.{eq-eqb, le-leb}
+use lib.Dec.{eqb}
+use Rattle.rules.proofs.SameRows.{same-terms}
+use Rattle.rules.specs.OnePosition.{rebate}
+use Rattle.rules.specs.Quantities.{fine, high, low}
+use Rattle.rules.specs.Spreads.{D, downReached, kindOf, limiterBars, oneKindSpread, outSpread, priceOf, same, spreadBetween, strikeCovers, strikeLoss, upReached}
+use Rattle.rules.specs.declared.Barrier.{Barrier}
+use Rattle.rules.specs.declared.Barrier.the-variants.{NoBarrier, UpIn, DownIn, UpOut, DownOut}
+use Rattle.rules.specs.declared.OptionType.{OptionType}
+use Rattle.rules.specs.declared.OptionType.the-variants.{Call, Put}
+use Rattle.rules.specs.declared.Series.{Series}
+use Rattle.rules.specs.declared.Spread.{Spread}
+use Rattle.rules.specs.declared.Spread.the-variants.{Barred, Margin}
+use Rattle.rules.specs.declared.Terms.{Terms}
+
+-- Whether a barrier is up-and-in or down-and-in.
+abbrev pub knockIn : Barrier → Bool
+knockIn NoBarrier = false
+knockIn (UpIn price) = true
+knockIn (DownIn price) = true
+knockIn (UpOut price) = false
+knockIn (DownOut price) = false
+
+-- A row beside itself: its strike covers, it loses nothing.
+self-loss : (k : OptionType) (t : Terms) → strikeLoss k t t ≡ 0
+self-loss Call t = omega arith
+self-loss Put t = omega arith
+
+self-covers : (k : OptionType) (t : Terms) → strikeCovers k t t ≡ true
+self-covers Call t = le-leb (t .pe) (t .pe) (le-refl (t .pe))
+self-covers Put t = le-leb (t .pe) (t .pe) (le-refl (t .pe))
+
+self-out : (reachable : Bool) (s : Series) (r d : ℕ) → r ≡ 0 → outSpread true reachable s r d ≡ 0
+self-out true s r d e = e
+self-out false s r d e = refl
+
+nothing-left : (n : ℕ) → n - n ≡ 0
+nothing-left n = omega arith
+
+self-spread : (b : Barrier) (s : Series) (t : Terms) → knockIn b ≡ false → oneKindSpread b (priceOf b) s t t ≡ Margin 0
+self-spread NoBarrier s t n = ap Margin (self-loss (s .option) t)
+self-spread (UpIn price) s t n = absurd (true≢false n)
+self-spread (DownIn price) s t n = absurd (true≢false n)
+self-spread (UpOut price) s t n =
+    rw (le-leb price price (le-refl price), eq-eqb price price refl, self-covers (s .option) t)
+    (ap Margin (self-out (upReached s price) s (rebate t - rebate t) (D (s .option) (low s) (cond (upReached s price) (fine price) (high s)) t t) (nothing-left (rebate t))))
+self-spread (DownOut price) s t n =
+    rw (le-leb price price (le-refl price), eq-eqb price price refl, self-covers (s .option) t)
+    (ap Margin (self-out (downReached s price) s (rebate t - rebate t) (D (s .option) (cond (downReached s price) (fine price) (low s)) (high s) t t) (nothing-left (rebate t))))
+
+module _ (s : Series) (h w : Terms) (r : Spread) where
+  -- A limiter on either row: identical rows or none.
+  pub limited-spread : limiterBars (h .limiter) (w .limiter) ≡ true → r ≡ cond (same h w) (Margin 0) Barred → r ≡ spreadBetween s h w
+  limited-spread e q = q ∙ rw e
+
+  -- Barriers of two kinds.
+  pub two-kinds : limiterBars (h .limiter) (w .limiter) ≡ false → eqb (kindOf (h .barrier)) (kindOf (w .barrier)) ≡ false → Barred ≡ spreadBetween s h w
+  two-kinds e k = rw e (go (same h w) (eqb (kindOf (h .barrier)) (kindOf (w .barrier))) refl k)
+    where
+      go : (t f : Bool) → same h w ≡ t → f ≡ false → Barred ≡ cond t (Margin 0) (cond f (oneKindSpread (w .barrier) (priceOf (h .barrier)) s h w) Barred)
+      go false false z q = refl
+      go t true z q = absurd (true≢false q)
+      go true false z q =
+          absurd (true≢false (sym (eq-eqb (kindOf (h .barrier)) (kindOf (w .barrier)) (ap (λ (x : Terms). kindOf (x .barrier)) (same-terms h w z))) ∙ k))
+
+  -- Two knock-ins: identical rows or none.
+  pub knock-in-spread : limiterBars (h .limiter) (w .limiter) ≡ false → knockIn (w .barrier) ≡ true → r ≡ cond (same h w) (Margin 0) Barred → r ≡ spreadBetween s h w
+  knock-in-spread e n q = q ∙ rw e (ap (cond (same h w) (Margin 0)) (go (w .barrier) (eqb (kindOf (h .barrier)) (kindOf (w .barrier))) n))
+    where
+      go : (b : Barrier) (t : Bool) → knockIn b ≡ true → Barred ≡ cond t (oneKindSpread b (priceOf (h .barrier)) s h w) Barred
+      go NoBarrier t n = absurd (false≢true n)
+      go (UpIn price) true n = refl
+      go (UpIn price) false n = refl
+      go (DownIn price) true n = refl
+      go (DownIn price) false n = refl
+      go (UpOut price) t n = absurd (false≢true n)
+      go (DownOut price) t n = absurd (false≢true n)
+
+  -- Other barriers of one kind: their own rule, identical rows too.
+  pub one-kind-rule : limiterBars (h .limiter) (w .limiter) ≡ false → eqb (kindOf (h .barrier)) (kindOf (w .barrier)) ≡ true → knockIn (w .barrier) ≡ false
+      → r ≡ oneKindSpread (w .barrier) (priceOf (h .barrier)) s h w → r ≡ spreadBetween s h w
+  one-kind-rule e k n q = q ∙ rw e (go (same h w) (eqb (kindOf (h .barrier)) (kindOf (w .barrier))) refl k)
+    where
+      go : (t f : Bool) → same h w ≡ t → f ≡ true
+          → oneKindSpread (w .barrier) (priceOf (h .barrier)) s h w
+          ≡ cond t (Margin 0) (cond f (oneKindSpread (w .barrier) (priceOf (h .barrier)) s h w) Barred)
+      go t false z g = absurd (false≢true g)
+      go false true z g = refl
+      go true true z g =
+          ap (λ (x : Terms). oneKindSpread (w .barrier) (priceOf (x .barrier)) s x w) (same-terms h w z)
+          ∙ self-spread (w .barrier) s w n
