@@ -2,8 +2,8 @@
 """Compares the proved programs with the reference implementation on the reference's vectors.
 
 For each file: the reading (accepted, or refusal and row), and the amounts of up to four rows and of one that is not
-there. Needs cargo, and target/bin/read_accounts and target/bin/position_amounts (`rt check`). Prints how many of each
-it compared, and every difference; exit status 1 where there is one.
+there. Needs cargo, and target/bin/position_amounts (`rt check`). Prints how many of each it compared, and every
+difference; exit status 1 where there is one.
 """
 import random
 import subprocess
@@ -28,9 +28,10 @@ def build_reference():
     return f'{CARGO}/release/one_position'
 
 
-def same_reading(answer, reading):
+def same_reading(answer, amounts):
+    """An accepted file's rows end in refusal 13, any other file has its own refusal alone."""
     first = answer.splitlines()[0]
-    return first == reading if first.startswith('refused') else reading.startswith('accepted')
+    return [first] == amounts if first.startswith('refused') else amounts[-1] == 'refused 13 0'
 
 
 def amounts_of(lines):
@@ -56,11 +57,11 @@ def rows_to_ask(chance, amounts):
 
 def main():
     one_position, chance, differences, compared = build_reference(), random.Random(1), 0, 0
-    answers = zip(vectors(), lines_of('read_accounts'), amounts_of(lines_of('position_amounts')), strict=True)
-    for number, ((file, answer), reading, amounts) in enumerate(answers):
-        if not same_reading(answer, reading):
+    answers = zip(vectors(), amounts_of(lines_of('position_amounts')), strict=True)
+    for number, ((file, answer), amounts) in enumerate(answers):
+        if not same_reading(answer, amounts):
             differences += 1
-            print(f'file {number}: reference {answer.splitlines()[0]}, program {reading}')
+            print(f'file {number}: reference {answer.splitlines()[0]}, program {amounts[-1]}')
         for row in rows_to_ask(chance, amounts):
             run = subprocess.run([one_position, str(row)], input=file, capture_output=True, check=True)
             expected, found = run.stdout.decode().strip(), told(amounts, row)

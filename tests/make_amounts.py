@@ -1,12 +1,14 @@
 #!/usr/bin/env python3
 """Writes the accounts that `position_amounts` is run on, and what it must write.
 
-The amounts are those of document 01, Checked values, starred or not: a unit margin in ticks times M 5 and Q 10. Run it
-from anywhere; `git status` shows no difference where nothing changed.
+Each case is an account file and the answer that document 01 gives it, stated by hand beside it: the amounts of its rows,
+or the reading's refusal. Most amounts are those of document 01, Checked values, starred or not: a unit margin in ticks
+times M 5 and Q 10. Run it from anywhere; `git status` shows no difference where nothing changed.
 """
-from accounts import CALL, EXAMPLE, PUT, account, last, position, series, write
+from accounts import CALL, EXAMPLE, PUT, account, last, one, position, series, write
 
 from account_batch import framed
+from account_layout import POSITION, SERIES, pack
 
 CHECKED_CALLS = [
     (dict(), 500),
@@ -37,20 +39,119 @@ def amounts(checked):
     return [ticks * 50 for _, ticks in checked]
 
 
-# A file and either the amounts of its rows or the reading's refusal.
-CASES = [
+ROWS_ON_THE_COVER = pack(SERIES, series()) + pack(POSITION, position(kind=9))
+LARGEST = account([series(10_000_000, 10_000_000, 0, 0, 1000)], [position(q=100_000, pe=1)])
+
+ACCEPTED = [
     (account(CALL, rows(CHECKED_CALLS)), amounts(CHECKED_CALLS)),
     (account(PUT, rows(CHECKED_PUTS)), amounts(CHECKED_PUTS)),
     (account([series(pv=3001, fa=1_234_567)], [position()]), [30_247]),
     (EXAMPLE, [25_000, 0, 300]),
     # the largest payoff, M and Q: the product before the division is near 10^22
-    (account([series(10_000_000, 10_000_000, 0, 0, 1000)], [position(q=100_000, pe=1)]), [9_999_999_900_000_000]),
+    (LARGEST, [9_999_999_900_000_000]),
     # one fine unit is rounded up once, not once a contract
     (account([series(1, 1_000_001, 0, 0, 1)], [position(q=100, pe=1)]), [1]),
     (account(CALL, [position()] * 256), [25_000] * 256),
-    (b'', 'refused 1 0'),
-    (last(kind=4, price=3001), 'refused 11 2'),
+    # cover sheets, the largest counts and the longest file
+    (account(CALL, [position()], cover=ROWS_ON_THE_COVER), [25_000]),
+    (account([series()] * 32, [position(series=31)] * 256), [25_000] * 256),
+    (account([series()] * 32, [position(series=i % 32) for i in range(256)], cover=b'\xff' * 56_564), [25_000] * 256),
+    # numbers at the ends of their ranges
+    (account([series(10_000_000, 10_000_000, 10_000_000, 1_000_000, 1000)], [position(q=100_000, pe=10_000_000)]), [9_000_000_000_000_000]),
+    (account([series(1, 1_000_000, 0, 0, 1)], [position(q=1, pe=1)]), [0]),
+    (account(PUT, [position(flags=6, pe=1, pb=0)]), [7_500]),
+    (account(CALL, [position(flags=6, pe=9_999_999, pb=10_000_000)]), [7_500]),
+    (one(kind=1, flags=5, price=1), [25_000]),
+    (one(kind=2, flags=15, price=10_000_000, pb=3101), [7_500]),
+    (one(kind=3, price=3001, reb=10_000_000), [500_000_000]),
+    (one(kind=4, price=2999), [25_000]),
+    (one(side=0, premium=10_000_000), [500_000_000]),
 ]
+
+REFUSED = [
+    # 1: the size of the file
+    (b'', 'refused 1 0'),
+    (b'\0' * 11, 'refused 1 0'),
+    (account([series()] * 32, [position()] * 256, cover=b'\0' * 56_565), 'refused 1 0'),
+    # 2: the trailer
+    (account([], [position()]), 'refused 2 0'),
+    (account([series()] * 33, [position()]), 'refused 2 0'),
+    (account(CALL, [position()] * 257), 'refused 2 0'),
+    (account(CALL, [position()], tail=(0, 0, 0, 1)), 'refused 2 0'),
+    (account(CALL, [position()], tail=(1, 0, 0, 0)), 'refused 2 0'),
+    (account([], [], distance=12), 'refused 2 0'),
+    # 3: no positions
+    (account(CALL, []), 'refused 3 0'),
+    (account(CALL, [], distance=7), 'refused 3 0'),
+    # 4: the distance
+    (account(CALL, [position()], distance=67), 'refused 4 0'),
+    (account(CALL, [position()], distance=69), 'refused 4 0'),
+    (account(CALL, [position()], distance=0xffffffff), 'refused 4 0'),
+    (account(CALL, [position()])[1:], 'refused 4 0'),
+    (account(CALL, [position()], s=2), 'refused 4 0'),
+    # 5: a series' ranges, in the first and in the last row
+    (account([series(pv=0)], [position()]), 'refused 5 0'),
+    (account([series(pv=10_000_001)], [position()]), 'refused 5 0'),
+    (account([series(fa=999_999)], [position()]), 'refused 5 0'),
+    (account([series(fa=10_000_001)], [position()]), 'refused 5 0'),
+    (account([series(fb=1_200_001)], [position()]), 'refused 5 0'),
+    (account([series(f3=1_000_001)], [position()]), 'refused 5 0'),
+    (account([series(m=0)], [position()]), 'refused 5 0'),
+    (account([series(), series(), series(m=1001)], [position()]), 'refused 5 2'),
+    # 6: a series' type and spare bytes
+    (account([series(option=2)], [position()]), 'refused 6 0'),
+    (account([series(spare=(1, 0, 0))], [position()]), 'refused 6 0'),
+    (account([series(), series(spare=(0, 0, 1))], [position()]), 'refused 6 1'),
+    # 7: series, side, kind, flags, spare bytes
+    (one(series=1), 'refused 7 0'),
+    (one(series=65_535), 'refused 7 0'),
+    (one(side=2), 'refused 7 0'),
+    (one(kind=5, price=3500), 'refused 7 0'),
+    (one(flags=16), 'refused 7 0'),
+    (one(flags=5), 'refused 7 0'),
+    (one(kind=3, flags=5, price=3500), 'refused 7 0'),
+    (one(kind=4, flags=5, price=2500), 'refused 7 0'),
+    (one(spare=(1, 0, 0)), 'refused 7 0'),
+    (last(spare=(0, 0, 255)), 'refused 7 2'),
+    # 8: Q, PE, REB, premium
+    (one(q=0), 'refused 8 0'),
+    (one(q=100_001), 'refused 8 0'),
+    (one(pe=0), 'refused 8 0'),
+    (one(pe=10_000_001), 'refused 8 0'),
+    (one(kind=1, price=3500, reb=10_000_001), 'refused 8 0'),
+    (one(reb=10_000_001), 'refused 8 0'),
+    (one(side=0, premium=10_000_001), 'refused 8 0'),
+    (last(premium=1), 'refused 8 2'),
+    # 9: PB
+    (one(pb=1), 'refused 9 0'),
+    (one(flags=6, pb=3100), 'refused 9 0'),
+    (one(flags=6, pb=10_000_001), 'refused 9 0'),
+    (account(PUT, [position(flags=6, pb=3100)]), 'refused 9 0'),
+    (last(flags=6, pb=0), 'refused 9 2'),
+    # 10: barrier price, or REB with kind 0
+    (one(price=1), 'refused 10 0'),
+    (one(reb=1), 'refused 10 0'),
+    (one(kind=1, price=0), 'refused 10 0'),
+    (one(kind=1, price=10_000_001), 'refused 10 0'),
+    (one(kind=1, flags=5, price=0), 'refused 10 0'),
+    (last(kind=2, flags=5, price=10_000_001), 'refused 10 2'),
+    # 11: the side of PV
+    (one(kind=1, price=3000), 'refused 11 0'),
+    (one(kind=2, price=3000), 'refused 11 0'),
+    (one(kind=3, price=2999), 'refused 11 0'),
+    (last(kind=4, price=3001), 'refused 11 2'),
+    # two faults at once: the first check, the earlier table and the earlier row win
+    (account([series(pv=0, option=2)], [position()]), 'refused 5 0'),
+    (account([series(), series(option=2)], [position(q=0)]), 'refused 6 1'),
+    (account(CALL, [position(kind=1, price=3000), position(series=1)]), 'refused 11 0'),
+    (one(kind=5, q=0), 'refused 7 0'),
+    (one(q=0, pb=1), 'refused 8 0'),
+    (one(pb=1, price=1), 'refused 9 0'),
+    (one(flags=6, kind=1, pb=3100, price=3000), 'refused 9 0'),
+    (one(kind=1, price=0, reb=1), 'refused 10 0'),
+]
+
+CASES = ACCEPTED + REFUSED
 
 
 def told(answer):
@@ -59,11 +160,12 @@ def told(answer):
     return ''.join(f'amount {row} {amount}\n' for row, amount in enumerate(answer)) + 'refused 13 0\n'
 
 
-write('crates/position_amounts/stdin', framed([f for f, _ in CASES]))
-write('crates/position_amounts/stdout', ''.join(told(answer) for _, answer in CASES).encode())
+write('crates/position_amounts/stdin', framed([f for f, _ in CASES]) + b'\x44\0\0\0cut')
+write('crates/position_amounts/stdout', (''.join(told(answer) for _, answer in CASES) + 'cut off\n').encode())
 
 # What the C client is run on.
+write('examples/document.account', EXAMPLE)
 write('examples/knock_in.account', account(CALL, rows(CHECKED_CALLS[2:6]), cover=b'knock-in calls\n'))
 write('examples/knock_out.account', account(CALL, rows(CHECKED_CALLS[6:10]), cover=b'knock-out calls\n'))
-write('examples/largest.account', CASES[4][0])
+write('examples/largest.account', LARGEST)
 write('examples/wrong_side.account', last(kind=4, price=3001))

@@ -1,4 +1,15 @@
--- The laws that the whole account rests on, over plain values.
+-- The laws that the pairing rests on, over plain values.
+pub mod FileFacts
+pub mod FamilyLaws
+pub mod KeyLaws
+pub mod TreeLaws
+pub mod SortLaws
+pub mod CursorLaws
+pub mod RankLaws
+pub mod CodeLaws
+pub mod SeekLaws
 pub mod RowLaws
-pub mod ListingLaws
-pub mod SettleLaws
+pub mod AlikeLaws
+pub mod StandingLaws
+pub mod MakeLaws
+pub mod Turn

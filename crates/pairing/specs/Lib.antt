@@ -1,3 +1,5 @@
--- What the whole account promises, and what its parts ask and promise.
-pub mod Listing
-pub mod Settled
+-- What the pairing keeps and promises.
+pub mod Keys
+pub mod Tree
+pub mod Cursors
+pub mod Pairing

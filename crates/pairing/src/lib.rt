@@ -1,70 +1,25 @@
-// The whole account: its lines as plain numbers, five to a line, and its total.
-use crate::listing::list_lines;
-use crate::premium::premium_sum;
-use account::reader::read_file;
-use rules::FileRead;
-use rules::Layout;
-use rules::MarginAnswer;
-use rules::Refusal;
-ghost use lib.ListN.{length};
-ghost use mathlib.Core.Path.{_≡_};
-ghost use Rattle.lines.specs.LineNumbers.{lineCount};
-ghost use Rattle.pairing.specs.Settled.{Settled};
-ghost use Rattle.rules.specs.Output.{premiumsFor};
-ghost use Rattle.rules.specs.Refusals.{fileRead};
-ghost use Rattle.rules.specs.declared.FileRead.the-variants.{Accepted};
+// The pairing over an accepted file: the definition's repeated choice, with the held rows in the order of their strikes
+// so that looking again costs one step.
+pub mod cursors;
+pub mod keys;
+pub mod links;
+pub mod make;
+pub mod pairs;
+pub mod queue;
+pub mod rows;
+pub mod tree;
 
-pub mod contracts;
-pub mod left;
-pub mod listing;
-pub mod premium;
+// What is kept of a written row: the rank of its nearest pair (strike difference, written row and held row in one
+// number), its places in the up and the down lane, and its unit margin.
+pub struct Standing {
+    pub rank: u64,
+    pub up: u64,
+    pub down: u64,
+    pub unit: u64,
+}
 
-// How many lines are written, and the sum of their amounts.
-pub struct Listed {
+// How many pairs were made, and the sum of their amounts.
+pub struct Tally {
     pub count: usize,
     pub total: u64,
-}
-
-// The account of an accepted file, or refusal 12 where the caller's list has fewer entries than the file has positions.
-fn settle_accepted(file: &[u8], l: Layout, room: usize, numbers: &mut [u64]) -> MarginAnswer
-    requires { ⌜ (fileRead (now file) ≡ Accepted l) × (length (now numbers) ≡ 1280) ⌝ }
-    ensures { λ r. ⌜ Settled (now (file .entry)) room (now (numbers .exit)) r ⌝ }
-{
-    if room < l.positions {
-        return MarginAnswer::NoTotal(Refusal::ListTooShort, 0);
-    }
-    let t = list_lines(file, l, numbers);
-    let total = t.total + premium_sum(file, l);
-    MarginAnswer::Total(t.count, total)
-}
-
-// The lines and the total of a file, for a caller's list of `room` entries, or the refusal: the reading's first, then 12.
-pub fn settle(file: &[u8], room: usize, numbers: &mut [u64]) -> MarginAnswer
-    requires { ⌜ length (now numbers) ≡ 1280 ⌝ }
-    ensures { λ r. ⌜ Settled (now (file .entry)) room (now (numbers .exit)) r ⌝ }
-{
-    match read_file(file) {
-        FileRead::Accepted(l) => settle_accepted(file, l, room, numbers),
-        FileRead::Refused(why, at) => MarginAnswer::NoTotal(why, at),
-    }
-}
-
-// How many lines an answer has.
-pub fn line_count(answer: MarginAnswer) -> usize
-    ensures { λ r. ⌜ r ≡ lineCount answer ⌝ }
-{
-    match answer {
-        MarginAnswer::Total(count, _) => count,
-        MarginAnswer::NoTotal(_, _) => 0,
-    }
-}
-
-// The premiums of a file's held rows, 0 where it is refused.
-pub fn premium_total(file: &[u8]) -> u64
-    ensures { λ r. ⌜ r ≡ premiumsFor (now (file .entry)) (fileRead (now (file .entry))) ⌝ }
-{
-    match read_file(file) {
-        FileRead::Accepted(l) => premium_sum(file, l),
-        FileRead::Refused(_, _) => 0,
-    }
 }

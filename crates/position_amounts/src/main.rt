@@ -1,14 +1,26 @@
 // Reads many account files on standard input, each as its length in four little-endian bytes and then its bytes, and
 // writes the amount of each row of each file, in row order, up to the refusal that the row after the last one gets.
+use account::values::refusal_number;
 use framing::Frame;
 use framing::next_file;
 use libc::STDOUT_FILENO;
 use position::amount::amount_for_row;
-use reading::print_number;
-use reading::print_refused;
 use rules::AmountAnswer;
+use rules::Refusal;
 ghost use lib.ListN.{length};
 ghost use mathlib.Core.Path.{_≡_};
+
+fn print_number(n: u64) {
+    io::write_all(STDOUT_FILENO, b" ");
+    io::print_decimal(STDOUT_FILENO, n);
+}
+
+fn print_refused(why: Refusal, row: usize) {
+    io::write_all(STDOUT_FILENO, b"refused");
+    print_number(refusal_number(why) as u64);
+    print_number(row as u64);
+    io::write_all(STDOUT_FILENO, b"\n");
+}
 
 fn print_amount(row: u64, amount: u64) {
     io::write_all(STDOUT_FILENO, b"amount");

@@ -10,7 +10,7 @@ use mir.Syntax.{Place, Opd as Operand, Body, seq, call}
 use types.Run.{Opds}
 use denote.Enum.Laws as EL
 use Rattle.lines.specs.LineNumbers.{lineCount}
-use Rattle.pairing.specs.Settled.{Settled}
+use Rattle.lines_and_total.specs.Settled.{Settled}
 use Rattle.rules.specs.declared.MarginAnswer.{MarginAnswer}
 use Rattle.serpentgleam.specs.MarginNumbers.{marginNumbers}
 use Rattle.serpentgleam.specs.declared.Result.{Result}
@@ -20,10 +20,10 @@ use Rattle.lent.proofs.Zeros.{array, array-room, array-slice}
 use Rattle.rules.proofs.MarginAnswer as E
 use Rattle.rules.proofs.MarginAnswer.Laws as E′
 use Rattle.serpentgleam.proofs.Result as N
-use Rattle.pairing.proofs.settle as settle
-use Rattle.pairing.proofs.settle.Symbol.{name as #pairing·settle}
-use Rattle.pairing.proofs.line_count as line-count
-use Rattle.pairing.proofs.line_count.Symbol.{name as #pairing·line-count}
+use Rattle.lines_and_total.proofs.settle as settle
+use Rattle.lines_and_total.proofs.settle.Symbol.{name as #lines-and-total·settle}
+use Rattle.lines_and_total.proofs.line_count as line-count
+use Rattle.lines_and_total.proofs.line_count.Symbol.{name as #lines-and-total·line-count}
 use Rattle.serpentgleam.proofs.numbers_of as numbers-of
 use Rattle.serpentgleam.proofs.numbers_of.Symbol.{name as #serpentgleam·numbers-of}
 
@@ -53,8 +53,8 @@ module _ {M : Type 1} (𝓤 : URA M) (H : Heap 𝓤) (A : Atoms 𝓤) (W : Given
   goes-numbers = qed W [] ∵ nothing ! $ owned ! E.the-row (Is E.the-row) (EL.makes E.the-type E′.the-plain 𝓤 H A) r (w ∷ []) is $ fjoin ! $ nothing ! $ join ! $ frame ! $ done !
 
   module _ {K : Type 0} {Γ : List (Item 𝓤)} {En : Env 𝓤 H} {C : Calls 𝓤 H} {Λ : Loops 𝓤 H} {q : Ends 𝓤 H} {xs : List Operand} {d : Place} {rest : Body} where
-    pub calls-count : K → FmC 𝓤 H (W .laws) C → Triple 𝓤 (C #pairing·line-count) (LineCount 𝓤 H A mem run) → Opds K W (raw (LineCount 𝓤 H A mem run .pre to-count) ∷ Γ) En xs (w ∷ [])
-        → ((v : Val) (n : ℕ) → n ≡ lineCount r → Is usize n (v ∷ []) → Seq K W Γ (lands C Λ En d v rest q)) → Seq K W Γ (runs C Λ En (seq (call #pairing·line-count xs d) rest) q)
+    pub calls-count : K → FmC 𝓤 H (W .laws) C → Triple 𝓤 (C #lines-and-total·line-count) (LineCount 𝓤 H A mem run) → Opds K W (raw (LineCount 𝓤 H A mem run .pre to-count) ∷ Γ) En xs (w ∷ [])
+        → ((v : Val) (n : ℕ) → n ≡ lineCount r → Is usize n (v ∷ []) → Seq K W Γ (lands C Λ En d v rest q)) → Seq K W Γ (runs C Λ En (seq (call #lines-and-total·line-count xs d) rest) q)
     calls-count t fm known = calls-plain t fm (LineCount 𝓤 H A mem run) known to-count goes-count usize (lasts line-count.ended tt (r, tt)) (λ (n : ℕ). n ≡ lineCount r) (λ _. id⊢ 𝓤 _)
 
     pub calls-numbers : K → FmC 𝓤 H (W .laws) C → Triple 𝓤 (C #serpentgleam·numbers-of) (NumbersOf 𝓤 H A mem run) → Opds K W (raw (NumbersOf 𝓤 H A mem run .pre to-numbers) ∷ Γ) En xs (w ∷ [])
@@ -84,10 +84,10 @@ module _ {M : Type 1} (𝓤 : URA M) (H : Heap 𝓤) (A : Atoms 𝓤) (W : Given
       nothing ! $ move ! (1 ∷ 0 ∷ []) $ fjoin ! $ owned ! usize (Is usize) (uint-makes 𝓤 H A W w64) room _ (refl, room-fits) $ fjoin ! $ move ! (1 ∷ 0 ∷ []) $ fjoin ! $ done !
 
   module _ {K : Type 0} {i j : Item 𝓤} {Γ : List (Item 𝓤)} {En : Env 𝓤 H} {C : Calls 𝓤 H} {Λ : Loops 𝓤 H} {q : Ends 𝓤 H} {xs : List Operand} {d : Place} {rest : Body} where
-    pub calls-settle : K → FmC 𝓤 H (W .laws) C → Triple 𝓤 (C #pairing·settle) (Settle 𝓤 H A mem run)
+    pub calls-settle : K → FmC 𝓤 H (W .laws) C → Triple 𝓤 (C #lines-and-total·settle) (Settle 𝓤 H A mem run)
         → ((ν : ℕ) (δ : GName) → Opds K W (raw (Settle 𝓤 H A mem run .pre (to-settle ν δ)) ∷ ‵ (flent (ν ∷ []) (Held u64 (length numbers) l 0 δ)) ∷ i ∷ j ∷ ‵ File ∷ Γ) En xs (Settle 𝓤 H A mem run .args (to-settle ν δ)))
         → ((w : Val) (r : MarginAnswer) (vs : List ℕ) → Settled (f .now) room vs r → Is E.the-row r (w ∷ []) → Seq K W (i ∷ j ∷ ‵ (row u64 fullShare vs l 0) ∷ ‵ (flft κ p) ∷ ‵ File ∷ Γ) (lands C Λ En d w rest q))
-        → Seq K W (i ∷ j ∷ ‵ (row u64 fullShare numbers l 0) ∷ ‵ (flft κ p) ∷ ‵ File ∷ Γ) (runs C Λ En (seq (call #pairing·settle xs d) rest) q)
+        → Seq K W (i ∷ j ∷ ‵ (row u64 fullShare numbers l 0) ∷ ‵ (flft κ p) ∷ ‵ File ∷ Γ) (runs C Λ En (seq (call #lines-and-total·settle xs d) rest) q)
     calls-settle t fm known os k =
         move t (4 ∷ []) $ use1 W (‵ File ⊛ ‵ File) (shr-slice-copy 𝓤 H A W (named 0) κ u8 .twice f (s ∷ [])) $ split t $ move t (4 ∷ []) $
         lends-row t tt u64 (named 1) numbers l 0 (array-room (length numbers) long) (λ ν δ. rewrite t 0 (λ (m : ℕ). ‵ (MutSlice (named 1) (ν ∷ []) u64 .own (array l δ numbers) (sliceVal (l, 0) m ∷ []))) long refl $

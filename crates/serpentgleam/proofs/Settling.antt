@@ -8,7 +8,7 @@ use lib.ListN.{drop, length}
 use Rattle.lent.proofs.EntryLaws.{lines-count, written-first}
 use Rattle.lent.specs.Entries.{entriesWritten}
 use Rattle.lines.specs.LineNumbers.{lineCount, linesFrom}
-use Rattle.pairing.specs.Settled.{Settled}
+use Rattle.lines_and_total.specs.Settled.{Settled}
 use Rattle.rules.specs.Lines.{linesGiven, listAfter}
 use Rattle.rules.specs.declared.Line.{Line}
 use Rattle.rules.specs.declared.MarginAnswer.{MarginAnswer}

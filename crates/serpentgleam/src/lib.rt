@@ -2,8 +2,8 @@
 // links; the header is include/serpentgleam.h.
 use account::values::refusal_number;
 use lent::write_entries;
-use pairing::line_count;
-use pairing::settle;
+use lines_and_total::line_count;
+use lines_and_total::settle;
 use position::amount::amount_for_row;
 use position::answer::signed;
 use rules::Line;

@@ -5,7 +5,7 @@ use mathlib.Core.List.{List}
 use mathlib.Core.Path.{_≡_, sym, ap, subst, _∙_}
 use native.Mathlib.Omega.{arith}
 use Rattle.lines.specs.LineNumbers.{lineCount, linesFrom}
-use Rattle.pairing.specs.Settled.{Settled}
+use Rattle.lines_and_total.specs.Settled.{Settled}
 use Rattle.rules.specs.Lines.{linesGiven, marginAnswer}
 use Rattle.rules.specs.Output.{answerText, linesText, marginText, premiumsFor, refusedText, totalsText}
 use Rattle.rules.specs.Refusals.{fileRead, number}

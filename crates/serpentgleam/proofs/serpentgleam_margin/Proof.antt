@@ -19,12 +19,12 @@ use Rattle.rules.proofs.MarginAnswer as E
 use Rattle.rules.proofs.MarginAnswer.Laws as E′
 use Rattle.serpentgleam.proofs.Result as N
 use Rattle.serpentgleam.proofs.Result.Laws as N′
-use Rattle.pairing.proofs.settle.Symbol as settle-def
-use Rattle.pairing.proofs.settle.Symbol.{name as #pairing·settle}
-use Rattle.pairing.proofs.settle.Met as settle-thm
-use Rattle.pairing.proofs.line_count.Symbol as line-count-def
-use Rattle.pairing.proofs.line_count.Symbol.{name as #pairing·line-count}
-use Rattle.pairing.proofs.line_count.Met as line-count-thm
+use Rattle.lines_and_total.proofs.settle.Symbol as settle-def
+use Rattle.lines_and_total.proofs.settle.Symbol.{name as #lines-and-total·settle}
+use Rattle.lines_and_total.proofs.settle.Met as settle-thm
+use Rattle.lines_and_total.proofs.line_count.Symbol as line-count-def
+use Rattle.lines_and_total.proofs.line_count.Symbol.{name as #lines-and-total·line-count}
+use Rattle.lines_and_total.proofs.line_count.Met as line-count-thm
 use Rattle.lent.proofs.write_entries.Symbol as write-entries-def
 use Rattle.lent.proofs.write_entries.Symbol.{name as #lent·write-entries}
 use Rattle.lent.proofs.write_entries.Met as write-entries-thm
@@ -42,8 +42,8 @@ stayed = (stay-none-slice (0 ∷ []) tt (plain (λ _. u8)) yes, (gave-slice (1 �
 
 -- Each callee meets its contract.
 record Known {M : Type 1} (𝓤 : URA M) (H : Heap 𝓤) (A : Atoms 𝓤) (mem : Memory → SProp 𝓤) (run : Routine → Fun 𝓤) (C : Calls 𝓤 H) : Type 1 where
-  k-settle : Triple 𝓤 (C #pairing·settle) (Settle 𝓤 H A mem run)
-  k-count : Triple 𝓤 (C #pairing·line-count) (LineCount 𝓤 H A mem run)
+  k-settle : Triple 𝓤 (C #lines-and-total·settle) (Settle 𝓤 H A mem run)
+  k-count : Triple 𝓤 (C #lines-and-total·line-count) (LineCount 𝓤 H A mem run)
   k-write : Triple 𝓤 (C #lent·write-entries) (WriteEntries 𝓤 H A mem run)
   k-numbers : Triple 𝓤 (C #serpentgleam·numbers-of) (NumbersOf 𝓤 H A mem run)
 
@@ -132,8 +132,8 @@ serpentgleam-margin-spec 𝓤 H 𝓜 𝓖 𝓡 =
     entered 𝓤 H (tripleOf 𝓤 H (𝓖 .A) margin.signature (margin.spec 𝓤 H (𝓖 .A) (𝓜 .mem) (𝓡 .run)))
     (tables 𝓤 H 𝓜 𝓡 code.env .C) (tables 𝓤 H 𝓜 𝓡 code.env .Λ) #serpentgleam·serpentgleam-margin code.function (code.unfolded 𝓤 H 𝓜 𝓡)
     (margin-meets 𝓤 H (𝓖 .A) (givenOf 𝓤 H 𝓜 𝓖) (𝓜 .mem) (𝓡 .run) (tablesOf 𝓤 H 𝓜 (tables 𝓤 H 𝓜 𝓡 code.env)) (record {
-      k-settle = cited 𝓤 H (Settle 𝓤 H (𝓖 .A) (𝓜 .mem) (𝓡 .run)) 𝓜 𝓡 code.env #pairing·settle settle-def.routine code.calls-pairing·settle (settle-thm.met 𝓤 H 𝓜 𝓖 𝓡);
-      k-count = cited 𝓤 H (LineCount 𝓤 H (𝓖 .A) (𝓜 .mem) (𝓡 .run)) 𝓜 𝓡 code.env #pairing·line-count line-count-def.routine code.calls-pairing·line-count (line-count-thm.met 𝓤 H 𝓜 𝓖 𝓡);
+      k-settle = cited 𝓤 H (Settle 𝓤 H (𝓖 .A) (𝓜 .mem) (𝓡 .run)) 𝓜 𝓡 code.env #lines-and-total·settle settle-def.routine code.calls-lines-and-total·settle (settle-thm.met 𝓤 H 𝓜 𝓖 𝓡);
+      k-count = cited 𝓤 H (LineCount 𝓤 H (𝓖 .A) (𝓜 .mem) (𝓡 .run)) 𝓜 𝓡 code.env #lines-and-total·line-count line-count-def.routine code.calls-lines-and-total·line-count (line-count-thm.met 𝓤 H 𝓜 𝓖 𝓡);
       k-write = cited 𝓤 H (WriteEntries 𝓤 H (𝓖 .A) (𝓜 .mem) (𝓡 .run)) 𝓜 𝓡 code.env #lent·write-entries write-entries-def.routine code.calls-lent·write-entries (write-entries-thm.met 𝓤 H 𝓜 𝓖 𝓡);
       k-numbers = cited 𝓤 H (NumbersOf 𝓤 H (𝓖 .A) (𝓜 .mem) (𝓡 .run)) 𝓜 𝓡 code.env #serpentgleam·numbers-of numbers-of-def.routine code.calls-serpentgleam·numbers-of (numbers-of-thm.met 𝓤 H 𝓜 𝓖 𝓡);
     }))

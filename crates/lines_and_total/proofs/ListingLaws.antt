@@ -1,0 +1,143 @@
+-- Lines written one after the other: none, one more, and those of all rows with contracts left.
+-- Assumes nothing.
+use Prim.Native.Nat.{ℕ, zero, suc, _+_, _*_, _≤_, _<_, min}
+use mathlib.Core.Bool.{true, false, cond}
+use mathlib.Core.List.{List, [], _∷_, _++_, append-assoc, append-nil}
+use mathlib.Core.Logic.{_⊎_, inl, inr}
+use mathlib.Core.Path.{_≡_, refl, sym, ap, ap₂, _∙_}
+use native.Mathlib.Nat.{eq-or-lt-of-le}
+use native.Mathlib.Numerals.{add-one}
+use native.Mathlib.Omega.{arith}
+use lib.Dec.{ltb}
+use lib.ListN.{length, length-append}
+use borrow.Author.Tests.{le-ltb, lt-ltb}
+use Rattle.lines.specs.LineNumbers.{LineWritten, lineFrom, linesFrom}
+use Rattle.pairing.specs.Keys.{nth}
+use Rattle.lines_and_total.specs.Listing.{Added, RowAsked, RowsAsked, leftAmountAt, leftOf}
+use Rattle.lines_and_total.specs.declared.Listed.{Listed}
+use Rattle.rules.proofs.LineLaws.{length-leftLines}
+use Rattle.rules.proofs.Sums.{sumOver-append, sumTo-more}
+use Rattle.rules.specs.File.{Account, accountOf}
+use Rattle.rules.specs.Lines.{leftLine, leftLines, lineAmount, sumOver, sumTo}
+use Rattle.rules.specs.declared.Layout.{Layout}
+use Rattle.rules.specs.declared.Line.{Line}
+
+abbrev pub listed : ℕ → ℕ → Listed
+listed count total = record { count = count; total = total }
+
+abbrev pub leftEntry : ℕ → ℕ → ℕ → Line
+leftEntry row q m = record { kind = 2; secondNumber = row; thirdNumber = q; fourthNumber = m; fifthNumber = 0 }
+
+lines-same : (x y : List ℕ) (n : ℕ) → ((i : ℕ) → i < 5 * n → nth x i ≡ nth y i) → linesFrom x n ≡ linesFrom y n
+unfolding linesFrom
+lines-same x y zero f = refl
+lines-same x y (suc n) f =
+    ap₂ (λ a b. a ++ (b ∷ [])) (lines-same x y n (λ i l. f i (omega arith)))
+    (rw (f (5 * n) (omega arith), f (5 * n + 1) (omega arith), f (5 * n + 2) (omega arith), f (5 * n + 3) (omega arith), f (5 * n + 4) (omega arith)))
+
+lines-more : (x : List ℕ) (n : ℕ) → linesFrom x (n + 1) ≡ linesFrom x n ++ (lineFrom x n ∷ [])
+unfolding linesFrom
+lines-more x n = rw add-one
+
+pub left-more : (a : Account) (left : ℕ → ℕ) (r : ℕ) → leftLines a left (r + 1) ≡ leftLines a left r ++ leftOf a left r
+unfolding leftLines
+left-more a left r = rw add-one
+
+-- The lines left depend on the rows' contracts alone.
+pub left-same : (a : Account) (f g : ℕ → ℕ) (n : ℕ) → ((r : ℕ) → r < n → f r ≡ g r) → leftLines a f n ≡ leftLines a g n
+unfolding leftLines
+left-same a f g zero e = refl
+left-same a f g (suc n) e =
+    ap₂ (λ x y. x ++ y) (left-same a f g n (λ r l. e r (omega arith)))
+    (ap (λ q. cond (ltb 0 q) (leftLine a n q ∷ []) []) (e n (omega arith)))
+
+sumTo-grows : (f : ℕ → ℕ) (m n : ℕ) → m ≤ n → sumTo f m ≤ sumTo f n
+unfolding sumTo
+sumTo-grows f m zero h = let e : m ≡ 0 = omega arith in rw e (omega arith)
+sumTo-grows f m (suc n) h = go (eq-or-lt-of-le h) (sumTo-grows f m n)
+  where
+    go : (m ≡ suc n) ⊎ (m < suc n) → (m ≤ n → sumTo f m ≤ sumTo f n) → sumTo f m ≤ sumTo f n + f n
+    go (inl e) again = rw e (omega arith)
+    go (inr l) again = omega (arith, again (omega arith))
+
+added-none : (numbers : List ℕ) (t : Listed) → Added [] numbers numbers t t
+unfolding sumOver
+added-none numbers t =
+    record {
+      count-is = omega arith;
+      lines-are = sym (append-nil (linesFrom numbers (t .count)));
+      total-is = omega arith;
+      total-most = omega arith;
+      numbers-length = refl;
+    }
+
+added-one : (line : Line) (m : ℕ) (n n′ : List ℕ) (t : Listed) → LineWritten (t .count) line n n′ → length n′ ≡ length n
+    → m ≡ lineAmount line → m ≤ 10_000_000_000_000_000 → Added (line ∷ []) n n′ t (listed (t .count + 1) (t .total + m))
+unfolding sumOver
+added-one line m n n′ t w len e most =
+    record {
+      count-is = omega arith;
+      lines-are = lines-more n′ (t .count) ∙ ap₂ (λ x y. x ++ (y ∷ [])) (lines-same n′ n (t .count) (w .before)) (w .line-is);
+      total-is = omega (arith, e);
+      total-most = omega arith;
+      numbers-length = len;
+    }
+
+added-both : (x y : List Line) (n₀ n₁ n₂ : List ℕ) (t₀ t₁ t₂ : Listed) → Added x n₀ n₁ t₀ t₁ → Added y n₁ n₂ t₁ t₂ → Added (x ++ y) n₀ n₂ t₀ t₂
+added-both x y n₀ n₁ n₂ t₀ t₁ t₂ f g =
+    record {
+      count-is = rw length-append (omega arith);
+      lines-are = g .lines-are ∙ ap (λ l. l ++ y) (f .lines-are) ∙ append-assoc (linesFrom n₀ (t₀ .count)) x y;
+      total-is = omega (arith, f .total-is, g .total-is, sumOver-append lineAmount x y);
+      total-most = rw length-append (omega arith);
+      numbers-length = g .numbers-length ∙ f .numbers-length;
+    }
+
+-- A row without contracts left has no line.
+pub row-none : (a : Account) (left : ℕ → ℕ) (row : ℕ) (n : List ℕ) (t : Listed) → left row ≡ 0 → Added (leftOf a left row) n n t t
+row-none a left row n t e = let z : ltb 0 (left row) ≡ false = le-ltb 0 (left row) (omega arith) in rw z (added-none n t)
+
+-- A row with contracts left has one.
+pub row-one : (a : Account) (left : ℕ → ℕ) (row m : ℕ) (n n′ : List ℕ) (t : Listed) → (left row ≡ 0 → ⊥)
+    → m ≡ leftAmountAt a row (left row) → m ≤ 10_000_000_000_000_000
+    → LineWritten (t .count) (leftEntry row (left row) m) n n′ → length n′ ≡ length n
+    → Added (leftOf a left row) n n′ t (listed (t .count + 1) (t .total + m))
+row-one a left row m n n′ t some e most w len =
+    let z : ltb 0 (left row) ≡ true = lt-ltb 0 (left row) (omega arith) in
+    let is = ap (leftEntry row (left row)) e in
+    rw z (added-one (leftLine a row (left row)) m n n′ t (record { line-is = w .line-is ∙ is; before = w .before; after = w .after }) len e most)
+
+-- No row yet, and one row more.
+pub rows-none : (a : Account) (left : ℕ → ℕ) (n : List ℕ) (t : Listed) → Added (leftLines a left 0) n n t t
+unfolding leftLines
+rows-none a left n t = added-none n t
+
+pub rows-more : (a : Account) (left : ℕ → ℕ) (r : ℕ) (n₀ n₁ n₂ : List ℕ) (t₀ t₁ t₂ : Listed) → Added (leftLines a left r) n₀ n₁ t₀ t₁
+    → Added (leftOf a left r) n₁ n₂ t₁ t₂ → Added (leftLines a left (r + 1)) n₀ n₂ t₀ t₂
+rows-more a left r n₀ n₁ n₂ t₀ t₁ t₂ f g = rw (left-more a left r) (added-both (leftLines a left r) (leftOf a left r) n₀ n₁ n₂ t₀ t₁ t₂ f g)
+
+pub rows-end : (a : Account) (left : ℕ → ℕ) (r p : ℕ) (n₀ n : List ℕ) (t₀ t : Listed) → r ≤ p → p ≤ r → Added (leftLines a left r) n₀ n t₀ t
+    → Added (leftLines a left p) n₀ n t₀ t
+rows-end a left r p n₀ n t₀ t h g f = let e : p ≡ r = omega arith in rw e f
+
+-- What the next row asks.
+pub row-asks : (b : List ℕ) (l : Layout) (left n₀ n : List ℕ) (t₀ t : Listed) (row : ℕ) → RowsAsked b l left n₀ t₀ → row < l .positions
+    → Added (leftLines (accountOf b l) (nth left) row) n₀ n t₀ t → RowAsked b l left n t row
+row-asks b l left n₀ n t₀ t row ok h f =
+    record {
+      file = ok .file;
+      row-below = h;
+      lefts = ok .lefts;
+      left-most = ok .left-most row h;
+      room = omega (arith, ok .room, f .numbers-length);
+      few =
+          omega (
+            arith,
+            ok .few,
+            f .count-is,
+            length-leftLines (accountOf b l) (nth left) row,
+            sumTo-more (λ r. min 1 (nth left r)) row,
+            sumTo-grows (λ r. min 1 (nth left r)) (row + 1) (l .positions) (omega arith),
+          );
+      total-most = omega (arith, ok .total-most, f .count-is, f .total-most);
+    }

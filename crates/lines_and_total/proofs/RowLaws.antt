@@ -1,0 +1,48 @@
+-- Rows as the code reads them: contracts, premiums and amounts left.
+-- Assumes nothing.
+use Prim.Native.Nat.{ℕ, _+_, _≤_, _<_}
+use mathlib.Core.List.{List}
+use mathlib.Core.Logic.{_⊎_, inl, inr}
+use mathlib.Core.Path.{_≡_, refl, sym, ap, subst, _∙_}
+use native.Mathlib.Nat.{eq-or-lt-of-le}
+use native.Mathlib.Omega.{arith}
+use lib.ListN.{length, set}
+use lib.Seq.{getD-set-other, getD-set-same}
+use Rattle.account.proofs.KnownRows.{series-below}
+use Rattle.account.specs.Known.{Known}
+use Rattle.pairing.specs.Keys.{nth}
+use Rattle.lines_and_total.specs.Listing.{ContractsTo, leftAmountAt, rowPremium}
+use Rattle.position.proofs.RowsFit.{at-row, row-fits}
+use Rattle.position.specs.Fits.{RowFits}
+use Rattle.rules.specs.File.{Account, accountOf}
+use Rattle.rules.specs.Lines.{heldPremium, leftAmount}
+use Rattle.rules.specs.Pairs.{available}
+use Rattle.rules.specs.declared.Layout.{Layout}
+use Rattle.rules.specs.declared.Position.{Position}
+use Rattle.rules.specs.declared.Series.{Series}
+
+-- A position read from an accepted file has a series.
+pub has-series : (b : List ℕ) (l : Layout) → Known b l → (row : ℕ) (p : Position) → row < l .positions → p ≡ accountOf b l .positionAt row → p .series < l .series
+has-series b l k row p h e = subst (λ (x : Position). x .series < l .series) (sym e) (series-below b l k row h)
+
+module _ (b : List ℕ) (l : Layout) (row : ℕ) (s : Series) (p : Position) (ep : p ≡ accountOf b l .positionAt row) (es : s ≡ accountOf b l .seriesAt (p .series)) where
+  pub read-fits : Known b l → row < l .positions → RowFits s p
+  read-fits k h = at-row RowFits (accountOf b l) row s p ep es (row-fits b l k row h)
+
+  pub premium-is : heldPremium (p .side) s p ≡ rowPremium (accountOf b l) row
+  premium-is = at-row (λ s p. heldPremium (p .side) s p ≡ rowPremium (accountOf b l) row) (accountOf b l) row s p ep es refl
+
+  pub left-is : (q : ℕ) → leftAmount (p .side) s p q ≡ leftAmountAt (accountOf b l) row q
+  left-is q = at-row (λ s p. leftAmount (p .side) s p q ≡ leftAmountAt (accountOf b l) row q) (accountOf b l) row s p ep es refl
+
+-- One row's contracts more.
+pub contracts-more : (a : Account) (left : List ℕ) (row : ℕ) (p : Position) → row < length left → p ≡ a .positionAt row
+    → ContractsTo a left row → ContractsTo a (set left row (p .q)) (row + 1)
+contracts-more a left row p long e before r h = go (eq-or-lt-of-le (below h))
+  where
+    below : r < row + 1 → r ≤ row
+    below l = omega arith
+
+    go : (r ≡ row) ⊎ (r < row) → nth (set left row (p .q)) r ≡ available a r
+    go (inl i) = rw i (getD-set-same left row (p .q) 0 long ∙ ap (λ (x : Position). x .q) e)
+    go (inr l) = getD-set-other left row r (p .q) 0 (λ (i : r ≡ row). omega arith) ∙ before r l

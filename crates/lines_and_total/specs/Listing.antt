@@ -1,0 +1,68 @@
+-- What the parts of the whole account ask and promise. Lines and total are said relative to those already there.
+use Prim.Native.Nat.{ℕ, _+_, _*_, _≤_, _<_, min}
+use mathlib.Core.Bool.{cond}
+use mathlib.Core.List.{List, [], _∷_, _++_}
+use mathlib.Core.Path.{_≡_}
+use lib.Dec.{ltb}
+use lib.ListN.{length}
+use Rattle.account.specs.Known.{Known}
+use Rattle.pairing.specs.Keys.{nth}
+use Rattle.lines.specs.LineNumbers.{linesFrom}
+use Rattle.lines_and_total.specs.declared.Listed.{Listed}
+use Rattle.rules.specs.File.{Account, seriesOfRow}
+use Rattle.rules.specs.Lines.{heldPremium, leftAmount, leftLine, lineAmount, lines, sumOver, sumTo}
+use Rattle.rules.specs.Pairs.{available}
+use Rattle.rules.specs.declared.Layout.{Layout}
+use Rattle.rules.specs.declared.Line.{Line}
+
+-- The first n numbers are the contracts of rows 0 to n - 1.
+abbrev pub ContractsTo : Account → List ℕ → ℕ → Type 0
+ContractsTo a left n = (r : ℕ) → r < n → nth left r ≡ available a r
+
+-- The premium of row r, 0 for a written one.
+abbrev pub rowPremium : Account → ℕ → ℕ
+rowPremium a r = heldPremium (a .positionAt r .side) (seriesOfRow a r) (a .positionAt r)
+
+-- The amount of q contracts left in row r.
+abbrev pub leftAmountAt : Account → ℕ → ℕ → ℕ
+leftAmountAt a r q = leftAmount (a .positionAt r .side) (seriesOfRow a r) (a .positionAt r) q
+
+-- The line of row r, where it has contracts left.
+abbrev pub leftOf : Account → (ℕ → ℕ) → ℕ → List Line
+leftOf a left r = cond (ltb 0 (left r)) (leftLine a r (left r) ∷ []) []
+
+-- The lines `extra` written after those of t₀, and their amounts added to its total.
+pub record Added (extra : List Line) (numbers₀ numbers : List ℕ) (t₀ t : Listed) : Type 0 where
+  pub count-is : t .count ≡ t₀ .count + length extra
+  pub lines-are : linesFrom numbers (t .count) ≡ linesFrom numbers₀ (t₀ .count) ++ extra
+  pub total-is : t .total ≡ t₀ .total + sumOver lineAmount extra
+  pub total-most : t .total ≤ t₀ .total + 10_000_000_000_000_000 * length extra
+  pub numbers-length : length numbers ≡ length numbers₀
+
+-- What the line of one row asks: a row of an accepted file with contracts left within its range, and room for it after
+-- the lines of t.
+pub record RowAsked (b : List ℕ) (l : Layout) (left numbers : List ℕ) (t : Listed) (row : ℕ) : Type 0 where
+  pub file : Known b l
+  pub row-below : row < l .positions
+  pub lefts : l .positions ≤ length left
+  pub left-most : nth left row ≤ 100_000
+  pub room : 1280 ≤ length numbers
+  pub few : t .count + min 1 (nth left row) ≤ 256
+  pub total-most : t .total ≤ 10_000_000_000_000_000 * t .count
+
+-- What the lines of all rows ask: together with the lines of t there are at most 256.
+pub record RowsAsked (b : List ℕ) (l : Layout) (left numbers : List ℕ) (t : Listed) : Type 0 where
+  pub file : Known b l
+  pub lefts : l .positions ≤ length left
+  pub left-most : (r : ℕ) → r < l .positions → nth left r ≤ 100_000
+  pub room : 1280 ≤ length numbers
+  pub few : t .count + sumTo (λ r. min 1 (nth left r)) (l .positions) ≤ 256
+  pub total-most : t .total ≤ 10_000_000_000_000_000 * t .count
+
+-- All lines of the account and the sum of their amounts.
+pub record AccountListed (a : Account) (numbers : List ℕ) (t : Listed) : Type 0 where
+  pub count-is : t .count ≡ length (lines a)
+  pub lines-are : linesFrom numbers (t .count) ≡ lines a
+  pub total-is : t .total ≡ sumOver lineAmount (lines a)
+  pub total-most : t .total ≤ 2_560_000_000_000_000_000
+  pub numbers-length : length numbers ≡ 1280

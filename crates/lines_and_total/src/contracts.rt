@@ -1,0 +1,22 @@
+// The contracts of each row, before any pair is made.
+use account::lookup::position_at;
+use rules::Layout;
+ghost use Prim.Native.Nat.{_≤_};
+ghost use lib.ListN.{length};
+ghost use Rattle.account.specs.Known.{Known};
+ghost use Rattle.lines_and_total.specs.Listing.{ContractsTo};
+ghost use Rattle.rules.specs.File.{accountOf};
+
+// Q of each row of an accepted file.
+pub fn fill_contracts(file: &[u8], l: Layout, left: &mut [u64])
+    requires { ⌜ Known (now file) l × (l .positions ≤ length (now left)) ⌝ }
+    ensures { λ _. ⌜ ContractsTo (accountOf (now (file .entry)) l) (now (left .exit)) (l .positions) ⌝ }
+{
+    let p = l.positions;
+    let mut row = 0;
+    while row < p {
+        let position = position_at(file, l, row);
+        left[row] = position.q as u64;
+        row += 1;
+    }
+}

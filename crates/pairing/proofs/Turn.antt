@@ -1,0 +1,189 @@
+-- The rounds: none, one more, the last.
+-- Assumes nothing.
+use Prim.Native.Nat.{ℕ, zero, suc, _+_, _*_, _-_, _/_, _%_, _≤_, _<_}
+use mathlib.Core.List.{List, [], _∷_, _++_}
+use mathlib.Core.Path.{_≡_, refl, sym, ap, ap₂, _∙_}
+use native.Mathlib.Nat.{add-sub-of-le}
+use native.Mathlib.Numerals.{add-one}
+use native.Mathlib.Omega.{arith}
+use lib.ListN.{length, length-append}
+use Rattle.account.specs.Known.{Known}
+use Rattle.pairing.proofs.FileFacts.{Ranged, ranged, row-within}
+use Rattle.pairing.proofs.StandingLaws.{nothing, picked, standings-fall}
+use Rattle.pairing.specs.Cursors.{BestRank, BothLinks, Lines, Standings}
+use Rattle.pairing.specs.Keys.{Links, SameBefore, none, nth}
+use Rattle.pairing.specs.Pairing.{PairAsked, PairWritten, Paired, PairedBy, pairOf}
+use Rattle.pairing.specs.declared.Tally.{Tally}
+use Rattle.lines.specs.LineNumbers.{lineFrom, linesFrom}
+use Rattle.rules.proofs.Counts.{bound, open-most, room, taken-most}
+use Rattle.rules.proofs.LineLaws.{pairLines-append}
+use Rattle.rules.proofs.MayPair.{apart}
+use Rattle.rules.proofs.Rounds.{left-ended, left-falls, left-more, made-ended, made-more}
+use Rattle.rules.proofs.Search.{choice-allowed, choice-same}
+use Rattle.rules.proofs.Sums.{sumOver-append}
+use Rattle.rules.specs.File.{Account, accountOf}
+use Rattle.rules.specs.Lines.{pairLines, spreadAmount, sumOver}
+use Rattle.rules.specs.Pairs.{available, bookOf, choice, leftAfter, madeAfter, madeBy, taken}
+use Rattle.rules.specs.declared.Choice.the-variants.{NoPair, Pair}
+use Rattle.rules.specs.declared.Layout.{Layout}
+
+abbrev tally : ℕ → ℕ → Tally
+tally k total = record { count = k; total = total }
+
+lines-same : (x y : List ℕ) (n : ℕ) → ((i : ℕ) → i < 5 * n → nth x i ≡ nth y i) → linesFrom x n ≡ linesFrom y n
+unfolding linesFrom
+lines-same x y zero f = refl
+lines-same x y (suc n) f =
+    ap₂ (λ a b. a ++ (b ∷ [])) (lines-same x y n (λ i l. f i (omega arith)))
+    (rw (f (5 * n) (omega arith), f (5 * n + 1) (omega arith), f (5 * n + 2) (omega arith), f (5 * n + 3) (omega arith), f (5 * n + 4) (omega arith)))
+
+lines-more : (x : List ℕ) (n : ℕ) → linesFrom x (n + 1) ≡ linesFrom x n ++ (lineFrom x n ∷ [])
+unfolding linesFrom
+lines-more x n = rw add-one
+
+module _ (a : Account) (numbers₀ : List ℕ) where
+  -- Before the first round.
+  pub began : (left : List ℕ) → ((r : ℕ) → r < a .positions → nth left r ≡ available a r)
+      → PairedBy 0 a numbers₀ left numbers₀ (tally 0 0)
+  unfolding leftAfter madeAfter sumOver pairLines linesFrom
+  began left same =
+      record {
+        count-is = refl;
+        total-is = refl;
+        total-most = omega arith;
+        left-is = same;
+        lines-are = refl;
+        after = λ i l. refl;
+        numbers-length = refl;
+      }
+
+  module _ (k total : ℕ) (left numbers : List ℕ) (f : PairedBy k a numbers₀ left numbers (tally k total)) where
+    now-choice : choice (bookOf a) (leftAfter (bookOf a) k (available a)) ≡ choice (bookOf a) (nth left)
+    now-choice = sym (choice-same (bookOf a) (nth left) (leftAfter (bookOf a) k (available a)) (f .left-is))
+
+    -- After the last round.
+    stopped : choice (bookOf a) (nth left) ≡ NoPair → Paired a numbers₀ left numbers (tally k total)
+    stopped e =
+        let none-left = now-choice ∙ e in
+        let few : k ≤ a .positions = omega (arith, f .count-is, bound (bookOf a) (available a) k) in
+        let all = add-sub-of-le few in
+        let made = ap (λ n. madeAfter (bookOf a) n (available a)) (sym all) ∙ made-ended (bookOf a) k (a .positions - k) (available a) none-left in
+        let rest = ap (λ n. leftAfter (bookOf a) n (available a)) (sym all) ∙ left-ended (bookOf a) k (a .positions - k) (available a) none-left in
+        record {
+          count-is = f .count-is ∙ ap length (sym made);
+          total-is = f .total-is ∙ ap (sumOver (spreadAmount a)) (sym made);
+          total-most = f .total-most;
+          left-is = λ r l. f .left-is r l ∙ ap (λ (g : ℕ → ℕ). g r) (sym rest);
+          lines-are = f .lines-are ∙ ap (pairLines a) (sym made);
+          after = f .after;
+          numbers-length = f .numbers-length;
+        }
+
+    module _ (w h : ℕ) (e : choice (bookOf a) (nth left) ≡ Pair w h) where
+      found : choice (bookOf a) (leftAfter (bookOf a) k (available a)) ≡ Pair w h
+      found = now-choice ∙ e
+
+      rounds-left : k + 2 ≤ a .positions
+      rounds-left = omega (arith, room (bookOf a) (apart a) (available a) k found, open-most (bookOf a) (available a))
+
+      made-is : madeAfter (bookOf a) (k + 1) (available a) ≡ madeAfter (bookOf a) k (available a) ++ (pairOf left w h ∷ [])
+      made-is =
+          let at = choice-allowed (bookOf a) (nth left) e in
+          made-more (bookOf a) k (available a)
+          ∙ ap (λ c. madeAfter (bookOf a) k (available a) ++ madeBy (leftAfter (bookOf a) k (available a)) c) found
+          ∙ rw (f .left-is w (at .written-below), f .left-is h (at .held-below)) refl
+
+      left-now : (r : ℕ) → r < a .positions → leftAfter (bookOf a) (k + 1) (available a) r ≡ taken (nth left) (Pair w h) r
+      left-now r l =
+          let at = choice-allowed (bookOf a) (nth left) e in
+          ap (λ (g : ℕ → ℕ). g r) (left-more (bookOf a) k (available a))
+          ∙ ap (λ c. taken (leftAfter (bookOf a) k (available a)) c r) found
+          ∙ rw (f .left-is r l, f .left-is w (at .written-below), f .left-is h (at .held-below)) refl
+
+      -- One more round.
+      turned : (left′ numbers′ : List ℕ) (m : ℕ) → PairWritten a k w h left numbers left′ numbers′ m
+          → PairedBy (k + 1) a numbers₀ left′ numbers′ (tally (k + 1) (total + m))
+      unfolding sumOver pairLines
+      turned left′ numbers′ m p =
+          record {
+            count-is = rw made-is (rw length-append (omega (arith, f .count-is)));
+            total-is =
+                rw made-is
+                (omega (
+                  arith,
+                  f .total-is,
+                  p .amount-is,
+                  sumOver-append (spreadAmount a) (madeAfter (bookOf a) k (available a)) (pairOf left w h ∷ []),
+                ));
+            total-most = omega (arith, f .total-most, p .amount-most);
+            left-is = λ r l. p .left-is r l ∙ sym (left-now r l);
+            lines-are =
+                lines-more numbers′ k
+                ∙ ap₂ (λ x y. x ++ (y ∷ [])) (lines-same numbers′ numbers k (p .before) ∙ f .lines-are) (p .line-is)
+                ∙ sym (ap (pairLines a) made-is ∙ pairLines-append a (madeAfter (bookOf a) k (available a)) (pairOf left w h ∷ []));
+            after = λ i l. p .after i (omega arith) ∙ f .after i (omega arith);
+            numbers-length = p .numbers-length ∙ f .numbers-length;
+          }
+
+pub still-standing : (a : Account) → Ranged a → (left left′ numbers numbers′ next tree places : List ℕ) (k w h m : ℕ)
+    → PairWritten a k w h left numbers left′ numbers′ m → Standings a left next tree places → Standings a left′ next tree places
+still-standing a ok left left′ numbers numbers′ next tree places k w h m p =
+    standings-fall a ok left left′ next tree places (λ r l. omega (arith, p .left-is r l, taken-most (nth left) (Pair w h) r))
+
+-- One turn of the code's loop, with the least rank m.
+module _ (b : List ℕ) (l : Layout) (known : Known b l) (numbers₀ left numbers next tree places : List ℕ) (k total : ℕ)
+    (f : PairedBy k (accountOf b l) numbers₀ left numbers (tally k total)) (lines : Lines (accountOf b l) next)
+    (m : ℕ) (best : BestRank (accountOf b l) left next tree places m) where
+  ok : Known b l
+  ok = known
+
+  pub round-stops : none ≤ m → Paired (accountOf b l) numbers₀ left numbers (tally k total)
+  round-stops s =
+      stopped (accountOf b l) numbers₀ k total left numbers f
+      (nothing (accountOf b l) (ranged b l ok) left next tree places lines (best .standings) (rw (best .least) at s))
+
+  module _ (s : m < none) where
+    picks : choice (bookOf (accountOf b l)) (nth left) ≡ Pair (m / 256 % 256) (m % 256)
+    picks =
+        rw (best .least)
+        (picked (accountOf b l) (ranged b l ok) left next tree places lines (best .standings) (rw (best .least) at s) (rw (best .least) at (best .live s)))
+
+    most : (r : ℕ) → r < l .positions → nth left r ≤ 100_000
+    most r lr =
+        omega (arith, f .left-is r lr, left-falls (bookOf (accountOf b l)) (available (accountOf b l)) k r, row-within b l ok r lr .q-most)
+
+    pub round-room : k + 2 ≤ l .positions
+    round-room = rounds-left (accountOf b l) numbers₀ k total left numbers f (m / 256 % 256) (m % 256) picks
+
+    pub round-few : l .positions ≤ 256
+    round-few = ok .placed .positions-most
+
+    pub round-asks : 256 ≤ length left → 1280 ≤ length numbers → PairAsked b l left numbers k (m / 256 % 256) (m % 256)
+    round-asks long wide =
+        let at = choice-allowed (bookOf (accountOf b l)) (nth left) picks in
+        record {
+          file = ok;
+          written = at .written-below;
+          held = at .held-below;
+          two = apart (accountOf b l) (m / 256 % 256) (m % 256) (at .may-pair);
+          may-pair = at .may-pair;
+          written-most = most (m / 256 % 256) (at .written-below);
+          held-most = most (m % 256) (at .held-below);
+          lefts = omega (arith, round-few);
+          room = omega (arith, round-room, round-few);
+        }
+
+    pub round-turns : (left′ numbers′ : List ℕ) (amount : ℕ)
+        → PairWritten (accountOf b l) k (m / 256 % 256) (m % 256) left numbers left′ numbers′ amount
+        → PairedBy (k + 1) (accountOf b l) numbers₀ left′ numbers′ (tally (k + 1) (total + amount))
+    round-turns = turned (accountOf b l) numbers₀ k total left numbers f (m / 256 % 256) (m % 256) picks
+
+-- Both lanes: the second leaves the first as it was.
+pub both-links : (a : Account) (before links : List ℕ) → a .positions ≤ 256 → 768 ≤ length links → Links a 256 before
+    → SameBefore 512 before links → Links a 512 links → BothLinks a links
+both-links a before links few room up same down =
+    record {
+      room = room;
+      up = λ r l. rw (same (256 + r) (omega arith)) (up r l);
+      down = down;
+    }

@@ -1,0 +1,14 @@
+use Rattle.pairing.proofs.cursors.lesser.Statement.{statement}
+use Rattle.pairing.proofs.cursors.lesser.Tie as tie
+use mathlib.Core.Logic.{inl, inr}
+use mathlib.Core.Path.{refl}
+use native.Mathlib.Omega.{arith}
+
+returns : tie.Need-returns
+returns c = (omega arith, c .if1 .taken, inl refl)
+
+returns-2 : tie.Need-returns-2
+returns-2 c = (omega arith, omega arith, inr refl)
+
+pub lesser-spec : {M : Type 1} → statement M
+lesser-spec = tie.close (tie.spec returns returns-2)

@@ -1,0 +1,76 @@
+use Rattle.pairing.proofs.MakeLaws.{pair-written}
+use Rattle.pairing.proofs.make.make_pair.Statement.{statement}
+use Rattle.pairing.proofs.make.make_pair.Tie as tie
+use borrow.Author.Needs.{needs}
+use denote.Ref.{now}
+use lib.ListN.{length-set}
+use native.Mathlib.Omega.{arith}
+
+mul-x : tie.Need-mul-x
+mul-x c = let p = c .before .before .before .pre in omega (arith, p .written, p .file .placed .positions-most)
+
+slice-read-x : tie.Need-slice-read-x
+slice-read-x c = let p = c .before .before .before .before .pre in omega (arith, p .written, p .lefts)
+
+mul-y : tie.Need-mul-y
+mul-y c = let p = c .before .before .before .before .pre in omega (arith, p .held, p .file .placed .positions-most)
+
+slice-read-y : tie.Need-slice-read-y
+slice-read-y c = let p = c .before .before .before .before .before .pre in omega (arith, p .held, p .lefts)
+
+smaller-requires : tie.Need-smaller-requires
+smaller-requires c κs = search needs
+
+pair-amount-requires : tie.Need-pair-amount-requires
+pair-amount-requires c κs = let p = c .before .before .before .before .before .before .pre in (p .file, p .written, p .held, omega (arith, c .smaller .ensures, p .written-most), p .may-pair)
+
+sub-left : tie.Need-sub-left
+sub-left c = omega (arith, c .before .smaller .ensures)
+
+mul-left : tie.Need-mul-left
+mul-left c = let p = c .before .before .before .before .before .before .before .pre in omega (arith, p .written, p .file .placed .positions-most)
+
+slice-write-left : tie.Need-slice-write-left
+slice-write-left c = let p = c .before .before .before .before .before .before .before .pre in omega (arith, p .written, p .lefts)
+
+sub-left-2 : tie.Need-sub-left-2
+sub-left-2 c = omega (arith, c .before .smaller .ensures)
+
+mul-left-2 : tie.Need-mul-left-2
+mul-left-2 c = let p = c .before .before .before .before .before .before .before .pre in omega (arith, p .held, p .file .placed .positions-most)
+
+slice-write-left-2 : tie.Need-slice-write-left-2
+slice-write-left-2 c = let p = c .before .before .before .before .before .before .before .pre in simp length-set (omega (arith, p .held, p .lefts))
+
+put-line-requires : tie.Need-put-line-requires
+put-line-requires c κs = c .before .before .before .before .before .before .before .before .pre .room
+
+same-length : tie.Need-same-length
+same-length c = simp length-set
+
+same-length-2 : tie.Need-same-length-2
+same-length-2 c = c .before .before .put-line .kept .0
+
+returns : tie.Need-returns
+returns c = let a = c .before .before .before .before .before .before .before .before .before .before .before .args in let m = c .before .before .put-line in pair-written (now (a .file)) (a .l) (now (a .left)) (now (a .numbers)) (a .k) (a .w) (a .h) (c .before .before .before .before .before .before .before .before .before .before .before .pre) (c .before .before .before .before .before .smaller .result) (c .before .before .before .before .pair-amount .result) (c .before .before .before .before .before .smaller .ensures) (c .before .before .before .before .pair-amount .ensures .0) (c .before .before .before .before .pair-amount .ensures .1) (m .last .0) (m .ensures) (m .kept .0)
+
+pub make-pair-spec : {M : Type 1} → statement M
+make-pair-spec =
+    tie.close
+    (tie.spec
+    mul-x
+    slice-read-x
+    mul-y
+    slice-read-y
+    smaller-requires
+    pair-amount-requires
+    sub-left
+    mul-left
+    slice-write-left
+    sub-left-2
+    mul-left-2
+    slice-write-left-2
+    put-line-requires
+    same-length
+    same-length-2
+    returns)
