@@ -11,5 +11,6 @@ pub mod SeekLaws
 pub mod RowLaws
 pub mod AlikeLaws
 pub mod StandingLaws
+pub mod LeastLaws
 pub mod MakeLaws
 pub mod Turn

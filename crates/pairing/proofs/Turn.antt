@@ -9,7 +9,7 @@ use native.Mathlib.Omega.{arith}
 use lib.ListN.{length, length-append}
 use Rattle.account.specs.Known.{Known}
 use Rattle.pairing.proofs.FileFacts.{Ranged, ranged, row-within}
-use Rattle.pairing.proofs.StandingLaws.{nothing, picked, standings-fall}
+use Rattle.pairing.proofs.LeastLaws.{nothing, picked, standings-fall}
 use Rattle.pairing.specs.Cursors.{BestRank, BothLinks, Lines, Standings}
 use Rattle.pairing.specs.Keys.{Links, SameBefore, none, nth}
 use Rattle.pairing.specs.Pairing.{PairAsked, PairWritten, Paired, PairedBy, pairOf}

@@ -1,7 +1,7 @@
 use Prim.Native.Nat.{_-_, _<_, _≤_}
 use Rattle.pairing.proofs.FileFacts.{ranged}
 use Rattle.pairing.proofs.SeekLaws.{both-some}
-use Rattle.pairing.proofs.StandingLaws.{both-spent, least-row, stale}
+use Rattle.pairing.proofs.LeastLaws.{both-spent, least-row, stale}
 use Rattle.pairing.proofs.rows.best_rank.Statement.{statement}
 use Rattle.pairing.proofs.rows.best_rank.Tie as tie
 use Rattle.pairing.specs.Cursors.{Standings}

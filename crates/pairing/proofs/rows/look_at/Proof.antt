@@ -1,5 +1,5 @@
 use Rattle.pairing.proofs.SeekLaws.{both-some}
-use Rattle.pairing.proofs.StandingLaws.{both-spent, looked-renewed, looked-same}
+use Rattle.pairing.proofs.LeastLaws.{both-spent, looked-renewed, looked-same}
 use Rattle.pairing.proofs.rows.look_at.Statement.{statement}
 use Rattle.pairing.proofs.rows.look_at.Tie as tie
 use Rattle.rules.specs.File.{accountOf}

@@ -1,5 +1,6 @@
 use Rattle.pairing.proofs.FileFacts.{ranged}
-use Rattle.pairing.proofs.StandingLaws.{but, next-places, no-row, own-places, renewed-last, renewed-next, renewed-own, retired}
+use Rattle.pairing.proofs.LeastLaws.{next-places, own-places, renewed-last, renewed-next, renewed-own}
+use Rattle.pairing.proofs.StandingLaws.{but, no-row, retired}
 use Rattle.pairing.proofs.rows.renew.Statement.{statement}
 use Rattle.pairing.proofs.rows.renew.Tie as tie
 use Rattle.pairing.specs.Keys.{nth}

@@ -1,6 +1,6 @@
 use Prim.Native.Nat.{_-_, _≤_}
 use Rattle.pairing.proofs.FileFacts.{ranged}
-use Rattle.pairing.proofs.StandingLaws.{looked-more, looked-none, raised-all}
+use Rattle.pairing.proofs.LeastLaws.{looked-more, looked-none, raised-all}
 use Rattle.pairing.proofs.rows.renew_all.Statement.{statement}
 use Rattle.pairing.proofs.rows.renew_all.Tie as tie
 use Rattle.pairing.specs.Cursors.{Leaves, LookedTo}
