@@ -14,7 +14,7 @@ use borrow.Author.Tests.{le-ltb, lt-ltb}
 use Rattle.lines.specs.LineNumbers.{LineWritten, lineFrom, linesFrom}
 use Rattle.pairing.specs.Keys.{nth}
 use Rattle.lines_and_total.specs.Listing.{Added, RowAsked, RowsAsked, leftAmountAt, leftOf}
-use Rattle.lines_and_total.specs.declared.Listed.{Listed}
+use Rattle.pairing.specs.declared.Tally.{Tally}
 use Rattle.rules.proofs.LineLaws.{length-leftLines}
 use Rattle.rules.proofs.Sums.{sumOver-append, sumTo-more}
 use Rattle.rules.specs.File.{Account, accountOf}
@@ -22,8 +22,8 @@ use Rattle.rules.specs.Lines.{leftLine, leftLines, lineAmount, sumOver, sumTo}
 use Rattle.rules.specs.declared.Layout.{Layout}
 use Rattle.rules.specs.declared.Line.{Line}
 
-abbrev pub listed : ℕ → ℕ → Listed
-listed count total = record { count = count; total = total }
+abbrev pub tally : ℕ → ℕ → Tally
+tally count total = record { count = count; total = total }
 
 abbrev pub leftEntry : ℕ → ℕ → ℕ → Line
 leftEntry row q m = record { kind = 2; secondNumber = row; thirdNumber = q; fourthNumber = m; fifthNumber = 0 }
@@ -60,7 +60,7 @@ sumTo-grows f m (suc n) h = go (eq-or-lt-of-le h) (sumTo-grows f m n)
     go (inl e) again = rw e (omega arith)
     go (inr l) again = omega (arith, again (omega arith))
 
-added-none : (numbers : List ℕ) (t : Listed) → Added [] numbers numbers t t
+added-none : (numbers : List ℕ) (t : Tally) → Added [] numbers numbers t t
 unfolding sumOver
 added-none numbers t =
     record {
@@ -71,8 +71,8 @@ added-none numbers t =
       numbers-length = refl;
     }
 
-added-one : (line : Line) (m : ℕ) (n n′ : List ℕ) (t : Listed) → LineWritten (t .count) line n n′ → length n′ ≡ length n
-    → m ≡ lineAmount line → m ≤ 10_000_000_000_000_000 → Added (line ∷ []) n n′ t (listed (t .count + 1) (t .total + m))
+added-one : (line : Line) (m : ℕ) (n n′ : List ℕ) (t : Tally) → LineWritten (t .count) line n n′ → length n′ ≡ length n
+    → m ≡ lineAmount line → m ≤ 10_000_000_000_000_000 → Added (line ∷ []) n n′ t (tally (t .count + 1) (t .total + m))
 unfolding sumOver
 added-one line m n n′ t w len e most =
     record {
@@ -83,7 +83,7 @@ added-one line m n n′ t w len e most =
       numbers-length = len;
     }
 
-added-both : (x y : List Line) (n₀ n₁ n₂ : List ℕ) (t₀ t₁ t₂ : Listed) → Added x n₀ n₁ t₀ t₁ → Added y n₁ n₂ t₁ t₂ → Added (x ++ y) n₀ n₂ t₀ t₂
+added-both : (x y : List Line) (n₀ n₁ n₂ : List ℕ) (t₀ t₁ t₂ : Tally) → Added x n₀ n₁ t₀ t₁ → Added y n₁ n₂ t₁ t₂ → Added (x ++ y) n₀ n₂ t₀ t₂
 added-both x y n₀ n₁ n₂ t₀ t₁ t₂ f g =
     record {
       count-is = rw length-append (omega arith);
@@ -94,34 +94,34 @@ added-both x y n₀ n₁ n₂ t₀ t₁ t₂ f g =
     }
 
 -- A row without contracts left has no line.
-pub row-none : (a : Account) (left : ℕ → ℕ) (row : ℕ) (n : List ℕ) (t : Listed) → left row ≡ 0 → Added (leftOf a left row) n n t t
+pub row-none : (a : Account) (left : ℕ → ℕ) (row : ℕ) (n : List ℕ) (t : Tally) → left row ≡ 0 → Added (leftOf a left row) n n t t
 row-none a left row n t e = let z : ltb 0 (left row) ≡ false = le-ltb 0 (left row) (omega arith) in rw z (added-none n t)
 
 -- A row with contracts left has one.
-pub row-one : (a : Account) (left : ℕ → ℕ) (row m : ℕ) (n n′ : List ℕ) (t : Listed) → (left row ≡ 0 → ⊥)
+pub row-one : (a : Account) (left : ℕ → ℕ) (row m : ℕ) (n n′ : List ℕ) (t : Tally) → (left row ≡ 0 → ⊥)
     → m ≡ leftAmountAt a row (left row) → m ≤ 10_000_000_000_000_000
     → LineWritten (t .count) (leftEntry row (left row) m) n n′ → length n′ ≡ length n
-    → Added (leftOf a left row) n n′ t (listed (t .count + 1) (t .total + m))
+    → Added (leftOf a left row) n n′ t (tally (t .count + 1) (t .total + m))
 row-one a left row m n n′ t some e most w len =
     let z : ltb 0 (left row) ≡ true = lt-ltb 0 (left row) (omega arith) in
     let is = ap (leftEntry row (left row)) e in
     rw z (added-one (leftLine a row (left row)) m n n′ t (record { line-is = w .line-is ∙ is; before = w .before; after = w .after }) len e most)
 
 -- No row yet, and one row more.
-pub rows-none : (a : Account) (left : ℕ → ℕ) (n : List ℕ) (t : Listed) → Added (leftLines a left 0) n n t t
+pub rows-none : (a : Account) (left : ℕ → ℕ) (n : List ℕ) (t : Tally) → Added (leftLines a left 0) n n t t
 unfolding leftLines
 rows-none a left n t = added-none n t
 
-pub rows-more : (a : Account) (left : ℕ → ℕ) (r : ℕ) (n₀ n₁ n₂ : List ℕ) (t₀ t₁ t₂ : Listed) → Added (leftLines a left r) n₀ n₁ t₀ t₁
+pub rows-more : (a : Account) (left : ℕ → ℕ) (r : ℕ) (n₀ n₁ n₂ : List ℕ) (t₀ t₁ t₂ : Tally) → Added (leftLines a left r) n₀ n₁ t₀ t₁
     → Added (leftOf a left r) n₁ n₂ t₁ t₂ → Added (leftLines a left (r + 1)) n₀ n₂ t₀ t₂
 rows-more a left r n₀ n₁ n₂ t₀ t₁ t₂ f g = rw (left-more a left r) (added-both (leftLines a left r) (leftOf a left r) n₀ n₁ n₂ t₀ t₁ t₂ f g)
 
-pub rows-end : (a : Account) (left : ℕ → ℕ) (r p : ℕ) (n₀ n : List ℕ) (t₀ t : Listed) → r ≤ p → p ≤ r → Added (leftLines a left r) n₀ n t₀ t
+pub rows-end : (a : Account) (left : ℕ → ℕ) (r p : ℕ) (n₀ n : List ℕ) (t₀ t : Tally) → r ≤ p → p ≤ r → Added (leftLines a left r) n₀ n t₀ t
     → Added (leftLines a left p) n₀ n t₀ t
 rows-end a left r p n₀ n t₀ t h g f = let e : p ≡ r = omega arith in rw e f
 
 -- What the next row asks.
-pub row-asks : (b : List ℕ) (l : Layout) (left n₀ n : List ℕ) (t₀ t : Listed) (row : ℕ) → RowsAsked b l left n₀ t₀ → row < l .positions
+pub row-asks : (b : List ℕ) (l : Layout) (left n₀ n : List ℕ) (t₀ t : Tally) (row : ℕ) → RowsAsked b l left n₀ t₀ → row < l .positions
     → Added (leftLines (accountOf b l) (nth left) row) n₀ n t₀ t → RowAsked b l left n t row
 row-asks b l left n₀ n t₀ t row ok h f =
     record {

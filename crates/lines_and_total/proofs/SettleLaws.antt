@@ -13,11 +13,10 @@ use Rattle.pairing.specs.Keys.{nth}
 use Rattle.pairing.specs.Pairing.{Paired, PairingAsked}
 use Rattle.pairing.specs.declared.Tally.{Tally}
 use Rattle.lines.specs.LineNumbers.{linesFrom}
-use Rattle.lines_and_total.proofs.ListingLaws.{left-same, listed}
+use Rattle.lines_and_total.proofs.ListingLaws.{left-same}
 use Rattle.lines_and_total.specs.Listing.{AccountListed, Added, ContractsTo, RowsAsked}
 use Rattle.lines_and_total.specs.Settled.{Settled}
 use Rattle.rules.specs.Output.{premiumsFor}
-use Rattle.lines_and_total.specs.declared.Listed.{Listed}
 use Rattle.rules.proofs.Answers.{answer-read, given-read}
 use Rattle.rules.proofs.Counts.{bound, openRows}
 use Rattle.rules.proofs.LineLaws.{length-pairLines, line-count, lines-are}
@@ -46,7 +45,7 @@ pairing-asks b l left numbers k el en f = record { file = k; lefts = omega arith
 
 -- What the rows left ask, after all pairs.
 pub rows-ask : (b : List ℕ) (l : Layout) (n₀ left n : List ℕ) (t : Tally) → Known b l → length left ≡ 256 → length n ≡ 1280
-    → Paired (accountOf b l) n₀ left n t → RowsAsked b l left n (listed (t .count) (t .total))
+    → Paired (accountOf b l) n₀ left n t → RowsAsked b l left n t
 unfolding openRows
 rows-ask b l n₀ left n t k el en p =
     let a = accountOf b l in
@@ -67,8 +66,8 @@ rows-ask b l n₀ left n t k el en p =
     }
 
 -- All lines, once the rows left are written after the pairs.
-pub account-listed : (b : List ℕ) (l : Layout) (n₀ left n n′ : List ℕ) (t : Tally) (t′ : Listed) → Known b l → length n ≡ 1280
-    → Paired (accountOf b l) n₀ left n t → Added (leftLines (accountOf b l) (nth left) (l .positions)) n n′ (listed (t .count) (t .total)) t′
+pub account-listed : (b : List ℕ) (l : Layout) (n₀ left n n′ : List ℕ) (t : Tally) (t′ : Tally) → Known b l → length n ≡ 1280
+    → Paired (accountOf b l) n₀ left n t → Added (leftLines (accountOf b l) (nth left) (l .positions)) n n′ t t′
     → AccountListed (accountOf b l) n′ t′
 account-listed b l n₀ left n n′ t t′ k en p f =
     let a = accountOf b l in
@@ -124,7 +123,7 @@ module _ (b : List ℕ) (room : ℕ) (numbers : List ℕ) (en : length numbers �
           numbers-length = en;
         }
 
-    pub settled-total : (n : ℕ) (t : Listed) → l .positions ≤ room → AccountListed (accountOf b l) numbers t → n ≡ premiums (accountOf b l)
+    pub settled-total : (n : ℕ) (t : Tally) → l .positions ≤ room → AccountListed (accountOf b l) numbers t → n ≡ premiums (accountOf b l)
         → Settled b room numbers (Total (t .count) (t .total + n))
     unfolding total lines
     settled-total n t h f en′ =

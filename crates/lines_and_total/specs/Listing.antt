@@ -8,7 +8,7 @@ use lib.ListN.{length}
 use Rattle.account.specs.Known.{Known}
 use Rattle.pairing.specs.Keys.{nth}
 use Rattle.lines.specs.LineNumbers.{linesFrom}
-use Rattle.lines_and_total.specs.declared.Listed.{Listed}
+use Rattle.pairing.specs.declared.Tally.{Tally}
 use Rattle.rules.specs.File.{Account, seriesOfRow}
 use Rattle.rules.specs.Lines.{heldPremium, leftAmount, leftLine, lineAmount, lines, sumOver, sumTo}
 use Rattle.rules.specs.Pairs.{available}
@@ -32,7 +32,7 @@ abbrev pub leftOf : Account → (ℕ → ℕ) → ℕ → List Line
 leftOf a left r = cond (ltb 0 (left r)) (leftLine a r (left r) ∷ []) []
 
 -- The lines `extra` written after those of t₀, and their amounts added to its total.
-pub record Added (extra : List Line) (numbers₀ numbers : List ℕ) (t₀ t : Listed) : Type 0 where
+pub record Added (extra : List Line) (numbers₀ numbers : List ℕ) (t₀ t : Tally) : Type 0 where
   pub count-is : t .count ≡ t₀ .count + length extra
   pub lines-are : linesFrom numbers (t .count) ≡ linesFrom numbers₀ (t₀ .count) ++ extra
   pub total-is : t .total ≡ t₀ .total + sumOver lineAmount extra
@@ -41,7 +41,7 @@ pub record Added (extra : List Line) (numbers₀ numbers : List ℕ) (t₀ t : L
 
 -- What the line of one row asks: a row of an accepted file with contracts left within its range, and room for it after
 -- the lines of t.
-pub record RowAsked (b : List ℕ) (l : Layout) (left numbers : List ℕ) (t : Listed) (row : ℕ) : Type 0 where
+pub record RowAsked (b : List ℕ) (l : Layout) (left numbers : List ℕ) (t : Tally) (row : ℕ) : Type 0 where
   pub file : Known b l
   pub row-below : row < l .positions
   pub lefts : l .positions ≤ length left
@@ -51,7 +51,7 @@ pub record RowAsked (b : List ℕ) (l : Layout) (left numbers : List ℕ) (t : L
   pub total-most : t .total ≤ 10_000_000_000_000_000 * t .count
 
 -- What the lines of all rows ask: together with the lines of t there are at most 256.
-pub record RowsAsked (b : List ℕ) (l : Layout) (left numbers : List ℕ) (t : Listed) : Type 0 where
+pub record RowsAsked (b : List ℕ) (l : Layout) (left numbers : List ℕ) (t : Tally) : Type 0 where
   pub file : Known b l
   pub lefts : l .positions ≤ length left
   pub left-most : (r : ℕ) → r < l .positions → nth left r ≤ 100_000
@@ -60,7 +60,7 @@ pub record RowsAsked (b : List ℕ) (l : Layout) (left numbers : List ℕ) (t : 
   pub total-most : t .total ≤ 10_000_000_000_000_000 * t .count
 
 -- All lines of the account and the sum of their amounts.
-pub record AccountListed (a : Account) (numbers : List ℕ) (t : Listed) : Type 0 where
+pub record AccountListed (a : Account) (numbers : List ℕ) (t : Tally) : Type 0 where
   pub count-is : t .count ≡ length (lines a)
   pub lines-are : linesFrom numbers (t .count) ≡ lines a
   pub total-is : t .total ≡ sumOver lineAmount (lines a)

@@ -1,9 +1,9 @@
 // The lines of the rows with contracts left.
-use crate::Listed;
 use account::lookup::position_at;
 use account::lookup::series_of_position;
 use lines::put_line;
 use numbers::amount;
+use pairing::Tally;
 use position::margin::unit_margin;
 use rules::Layout;
 use rules::Line;
@@ -47,9 +47,9 @@ fn left_row(
     l: Layout,
     left: &[u64],
     numbers: &mut [u64],
-    t: Listed,
+    t: Tally,
     row: usize,
-) -> Listed
+) -> Tally
     requires { ⌜ RowAsked (now file) l (now left) (now numbers) t row ⌝ }
     ensures { λ r. ⌜ Added (leftOf (accountOf (now (file .entry)) l) (nth (now (left .entry))) row) (now (numbers .entry)) (now (numbers .exit)) t r ⌝ }
 {
@@ -66,20 +66,14 @@ fn left_row(
         fifthNumber: 0,
     };
     put_line(numbers, t.count, line);
-    Listed {
+    Tally {
         count: t.count + 1,
         total: t.total + money,
     }
 }
 
 // The lines of all rows with contracts left, in row order, after the lines of `before`.
-pub fn left_rows(
-    file: &[u8],
-    l: Layout,
-    left: &[u64],
-    numbers: &mut [u64],
-    before: Listed,
-) -> Listed
+pub fn left_rows(file: &[u8], l: Layout, left: &[u64], numbers: &mut [u64], before: Tally) -> Tally
     requires { ⌜ RowsAsked (now file) l (now left) (now numbers) before ⌝ }
     ensures { λ r. ⌜ Added (leftLines (accountOf (now (file .entry)) l) (nth (now (left .entry))) (l .positions)) (now (numbers .entry)) (now (numbers .exit)) before r ⌝ }
 {

@@ -19,12 +19,6 @@ pub mod left;
 pub mod listing;
 pub mod premium;
 
-// How many lines are written, and the sum of their amounts.
-pub struct Listed {
-    pub count: usize,
-    pub total: u64,
-}
-
 // The account of an accepted file, or refusal 12 where the caller's list has fewer entries than the file has positions.
 fn settle_accepted(file: &[u8], l: Layout, room: usize, numbers: &mut [u64]) -> MarginAnswer
     requires { ⌜ (fileRead (now file) ≡ Accepted l) × (length (now numbers) ≡ 1280) ⌝ }

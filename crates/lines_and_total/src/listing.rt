@@ -1,7 +1,7 @@
 // All lines of an account.
-use crate::Listed;
 use crate::contracts::fill_contracts;
 use crate::left::left_rows;
+use pairing::Tally;
 use pairing::pairs::pair_up;
 use rules::Layout;
 ghost use lib.ListN.{length};
@@ -11,16 +11,12 @@ ghost use Rattle.lines_and_total.specs.Listing.{AccountListed};
 ghost use Rattle.rules.specs.File.{accountOf};
 
 // The pairs as made, then the rows with contracts left.
-pub fn list_lines(file: &[u8], l: Layout, numbers: &mut [u64]) -> Listed
+pub fn list_lines(file: &[u8], l: Layout, numbers: &mut [u64]) -> Tally
     requires { ⌜ Known (now file) l × (length (now numbers) ≡ 1280) ⌝ }
     ensures { λ t. ⌜ AccountListed (accountOf (now (file .entry)) l) (now (numbers .exit)) t ⌝ }
 {
     let mut left = [0u64; 256];
     fill_contracts(file, l, &mut left);
     let pairs = pair_up(file, l, &mut left, numbers);
-    let before = Listed {
-        count: pairs.count,
-        total: pairs.total,
-    };
-    left_rows(file, l, &left, numbers, before)
+    left_rows(file, l, &left, numbers, pairs)
 }

@@ -1,7 +1,7 @@
 -- Held rows in the order of their strikes, as numbers. A key carries series, family, strike and row, so that its order is
--- first the series', then the family's, then the strike's, then the row's. The up lane has the strikes as they are, the down lane counted from
--- 10,000,000 downwards. The links of the up lane stand from 256 on, those of the down lane from 512 on, and `o` is that
--- first place.
+-- first the series', then the family's, then the strike's, then the row's. There are two lanes of keys: the up lane has the
+-- strikes as they are, the down lane counts them from 10,000,000 downwards. `o` is where a lane's links begin: 256 for the
+-- up lane and 512 for the down lane. None begins at 0, since `0 + r` is not `r` by computation and one law serves both.
 use Prim.Native.Nat.{ℕ, _+_, _*_, _-_, _%_, _≤_, _<_}
 use mathlib.Core.Bool.{Bool, true, cond, _&&_}
 use mathlib.Core.List.{List}

@@ -1,5 +1,5 @@
 // The pairing over an accepted file: the definition's repeated choice, with the held rows in the order of their strikes
-// so that looking again costs one step.
+// so that looking again costs one step, and the next pair from a tree of minima over the rows' ranks.
 pub mod cursors;
 pub mod keys;
 pub mod links;
@@ -18,7 +18,7 @@ pub struct Standing {
     pub unit: u64,
 }
 
-// How many pairs were made, and the sum of their amounts.
+// How many lines there are, and the sum of their amounts.
 pub struct Tally {
     pub count: usize,
     pub total: u64,

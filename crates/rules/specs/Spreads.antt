@@ -73,11 +73,11 @@ strikeCovers Put h w = leb (w .pe) (h .pe)
 abbrev pub R : Bool → Terms → Terms → ℕ
 R barriersEqual h w = cond barriersEqual (rebate w - rebate h) (rebate w)
 
--- "for calls D = min(PEh; H) − PEw .. for puts D = PEw − max(PEh; L)", at the L and H in force (items 4 and 5 of d, e, f
--- and g).
+-- "for calls D = min(PEh; H) − PEw .. for puts D = PEw − max(PEh; L)", at the L and H in force, `lowPrice` and `highPrice`
+-- (items 4 and 5 of d, e, f and g).
 abbrev pub D : OptionType → ℕ → ℕ → Terms → Terms → ℕ
-D Call l h held w = min (fine (held .pe)) h - fine (w .pe)
-D Put l h held w = fine (w .pe) - max (fine (held .pe)) l
+D Call lowPrice highPrice h w = min (fine (h .pe)) highPrice - fine (w .pe)
+D Put lowPrice highPrice h w = fine (w .pe) - max (fine (h .pe)) lowPrice
 
 -- "Call with PEh ≤ PEw, put with PEh ≥ PEw: R if reachable, else 0. The others: max(MM; D), with R in the maximum too
 -- if reachable". The first test is the strikes' and the second whether the written barrier is reachable; r is R and d is

@@ -10,25 +10,25 @@ slice-aggregate-fill-contracts : tie.Need-slice-aggregate-fill-contracts
 slice-aggregate-fill-contracts c = search needs
 
 fill-contracts-requires : tie.Need-fill-contracts-requires
-fill-contracts-requires c κs = let a = c .before .before .before .args in let p = c .before .before .before .pre in (p .0, omega (arith, (p .0) .placed .positions-most))
+fill-contracts-requires c κs = (c .before .before .before .pre .0, omega (arith, c .before .before .before .pre .0 .placed .positions-most))
 
 slice-aggregate-pair-up : tie.Need-slice-aggregate-pair-up
 slice-aggregate-pair-up c = search needs
 
 pair-up-requires : tie.Need-pair-up-requires
-pair-up-requires c κs = let a = c .before .before .before .before .before .before .before .args in let p = c .before .before .before .before .before .before .before .pre in let f = c .before .before .before .fill-contracts in pairing-asks (now (a .file)) (a .l) (f .last .1 .1 .0) (now (a .numbers)) (p .0) (omega (arith, f .kept .1 .1 .0)) (p .1) (f .ensures)
+pair-up-requires c κs = pairing-asks (now (c .before .before .before .before .before .before .before .args .file)) (c .before .before .before .before .before .before .before .args .l) (c .before .before .before .fill-contracts .last .1 .1 .0) (now (c .before .before .before .before .before .before .before .args .numbers)) (c .before .before .before .before .before .before .before .pre .0) (omega (arith, c .before .before .before .fill-contracts .kept .1 .1 .0)) (c .before .before .before .before .before .before .before .pre .1) (c .before .before .before .fill-contracts .ensures)
 
 slice-aggregate-left-rows : tie.Need-slice-aggregate-left-rows
 slice-aggregate-left-rows c = search needs
 
 left-rows-requires : tie.Need-left-rows-requires
-left-rows-requires c κs = let a = c .before .before .before .before .before .before .before .before .before .before .before .before .before .args in let p = c .before .before .before .before .before .before .before .before .before .before .before .before .before .pre in let q = c .before .before .before .before .before .pair-up in rows-ask (now (a .file)) (a .l) (now (a .numbers)) (q .last .1 .1 .0) (q .last .1 .1 .1 .0) (q .result) (p .0) (omega (arith, q .kept .1 .1 .0, c .before .before .before .before .before .before .before .before .before .fill-contracts .kept .1 .1 .0)) (q .ensures .numbers-length ∙ p .1) (q .ensures)
+left-rows-requires c κs = rows-ask (now (c .before .before .before .before .before .before .before .before .before .before .before .before .before .args .file)) (c .before .before .before .before .before .before .before .before .before .before .before .before .before .args .l) (now (c .before .before .before .before .before .before .before .before .before .before .before .before .before .args .numbers)) (c .before .before .before .before .before .pair-up .last .1 .1 .0) (c .before .before .before .before .before .pair-up .last .1 .1 .1 .0) (c .before .before .before .before .before .pair-up .result) (c .before .before .before .before .before .before .before .before .before .before .before .before .before .pre .0) (omega (arith, c .before .before .before .before .before .pair-up .kept .1 .1 .0, c .before .before .before .before .before .before .before .before .before .fill-contracts .kept .1 .1 .0)) (c .before .before .before .before .before .pair-up .ensures .numbers-length ∙ c .before .before .before .before .before .before .before .before .before .before .before .before .before .pre .1) (c .before .before .before .before .before .pair-up .ensures)
 
 same-length : tie.Need-same-length
 same-length c = c .before .before .left-rows .kept .1 .1 .1 .0 ∙ c .before .before .before .before .before .before .before .before .pair-up .kept .1 .1 .1 .0
 
 returns : tie.Need-returns
-returns c = let a = c .before .before .before .before .before .before .before .before .before .before .before .before .before .before .before .before .args in let p = c .before .before .before .before .before .before .before .before .before .before .before .before .before .before .before .before .pre in let q = c .before .before .before .before .before .before .before .before .pair-up in let n = c .before .before .left-rows in account-listed (now (a .file)) (a .l) (now (a .numbers)) (q .last .1 .1 .0) (q .last .1 .1 .1 .0) (n .last .1 .1 .1 .0) (q .result) (n .result) (p .0) (q .ensures .numbers-length ∙ p .1) (q .ensures) (n .ensures)
+returns c = account-listed (now (c .before .before .before .before .before .before .before .before .before .before .before .before .before .before .before .before .args .file)) (c .before .before .before .before .before .before .before .before .before .before .before .before .before .before .before .before .args .l) (now (c .before .before .before .before .before .before .before .before .before .before .before .before .before .before .before .before .args .numbers)) (c .before .before .before .before .before .before .before .before .pair-up .last .1 .1 .0) (c .before .before .before .before .before .before .before .before .pair-up .last .1 .1 .1 .0) (c .before .before .left-rows .last .1 .1 .1 .0) (c .before .before .before .before .before .before .before .before .pair-up .result) (c .before .before .left-rows .result) (c .before .before .before .before .before .before .before .before .before .before .before .before .before .before .before .before .pre .0) (c .before .before .before .before .before .before .before .before .pair-up .ensures .numbers-length ∙ c .before .before .before .before .before .before .before .before .before .before .before .before .before .before .before .before .pre .1) (c .before .before .before .before .before .before .before .before .pair-up .ensures) (c .before .before .left-rows .ensures)
 
 pub list-lines-spec : {M : Type 1} → statement M
 list-lines-spec =
