@@ -5,14 +5,12 @@ use rules::Limiter;
 use rules::OptionType;
 use rules::Position;
 use rules::PositionRow;
-use rules::Refusal;
 use rules::Series;
 use rules::SeriesRow;
 use rules::Side;
 use rules::Terms;
 ghost use mathlib.Core.Path.{_≡_};
 ghost use Rattle.rules.specs.File.{barrierOf, flagsOf, limiterOf, optionOf, positionOf, seriesOf, sideOf};
-ghost use Rattle.rules.specs.Refusals.{number};
 
 pub fn option_of(n: u32) -> OptionType
     ensures { λ r. ⌜ r ≡ optionOf n ⌝ }
@@ -95,26 +93,5 @@ pub fn position_of(r: PositionRow) -> Position
         flags,
         q: r.q,
         premium: r.premium,
-    }
-}
-
-// Document 01's number of a refusal.
-pub fn refusal_number(why: Refusal) -> u32
-    ensures { λ n. ⌜ n ≡ number why ⌝ }
-{
-    match why {
-        Refusal::FileSize => 1,
-        Refusal::Trailer => 2,
-        Refusal::NoPositions => 3,
-        Refusal::Distance => 4,
-        Refusal::SeriesRange => 5,
-        Refusal::SeriesType => 6,
-        Refusal::PositionTerms => 7,
-        Refusal::PositionRange => 8,
-        Refusal::LimiterPrice => 9,
-        Refusal::BarrierPrice => 10,
-        Refusal::BarrierSide => 11,
-        Refusal::ListTooShort => 12,
-        Refusal::RowAskedFor => 13,
     }
 }

@@ -1,5 +1,5 @@
 // One position's answer as a signed number, as C takes it.
-use account::values::refusal_number;
+use refusals::refusal_number;
 use rules::AmountAnswer;
 ghost use Prim.Native.Nat.{_≤_};
 ghost use mathlib.Core.Path.{_≡_};

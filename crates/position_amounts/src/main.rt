@@ -1,10 +1,10 @@
 // Reads many account files on standard input, each as its length in four little-endian bytes and then its bytes, and
 // writes the amount of each row of each file, in row order, up to the refusal that the row after the last one gets.
-use account::values::refusal_number;
 use framing::Frame;
 use framing::next_file;
 use libc::STDOUT_FILENO;
 use position::amount::amount_for_row;
+use refusals::refusal_number;
 use rules::AmountAnswer;
 use rules::Refusal;
 ghost use lib.ListN.{length};

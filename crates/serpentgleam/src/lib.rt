@@ -1,11 +1,11 @@
 // The operations offered outside, as a C program calls them. `rt staticlib serpentgleam` writes the archive that a client
 // links; the header is include/serpentgleam.h.
-use account::values::refusal_number;
 use lent::write_entries;
 use lines_and_total::line_count;
 use lines_and_total::settle;
 use position::amount::amount_for_row;
 use position::answer::signed;
+use refusals::refusal_number;
 use rules::Line;
 use rules::MarginAnswer;
 ghost use lib.ListN.{length};

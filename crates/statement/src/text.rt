@@ -1,10 +1,10 @@
 // A file's margin as the text that document 01 shows.
 use crate::words::put_number;
 use crate::words::put_word;
-use account::values::refusal_number;
 use lines::line_at;
 use lines_and_total::premium_total;
 use lines_and_total::settle;
+use refusals::refusal_number;
 use rules::Line;
 use rules::MarginAnswer;
 ghost use Prim.Native.Nat.{_+_, _*_, _≤_};

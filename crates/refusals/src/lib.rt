@@ -1,0 +1,25 @@
+// The numbers of document 01's refusals, those of a file and those given after it.
+use rules::Refusal;
+ghost use mathlib.Core.Path.{_≡_};
+ghost use Rattle.rules.specs.Refusals.{number};
+
+// Document 01's number of a refusal.
+pub fn refusal_number(why: Refusal) -> u32
+    ensures { λ n. ⌜ n ≡ number why ⌝ }
+{
+    match why {
+        Refusal::FileSize => 1,
+        Refusal::Trailer => 2,
+        Refusal::NoPositions => 3,
+        Refusal::Distance => 4,
+        Refusal::SeriesRange => 5,
+        Refusal::SeriesType => 6,
+        Refusal::PositionTerms => 7,
+        Refusal::PositionRange => 8,
+        Refusal::LimiterPrice => 9,
+        Refusal::BarrierPrice => 10,
+        Refusal::BarrierSide => 11,
+        Refusal::ListTooShort => 12,
+        Refusal::RowAskedFor => 13,
+    }
+}
