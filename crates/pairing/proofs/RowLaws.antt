@@ -61,10 +61,12 @@ module _ (b : List ℕ) (l : Layout) (left : List ℕ) (w : ℕ) (row : Row b l 
         let yes : pairsAsWritten (accountOf b l .positionAt w) ≡ true = rw (p .is-written, p .written-terms) in
         true≢false (sym yes ∙ sym test-is ∙ e))
 
-    pub starts : t ≡ true → (o : ℕ) (links : List ℕ) → Links (accountOf b l) o links → Cursor (accountOf b l) left o w (nth links (o + w))
-    starts e o links f =
-        cursor-starts (accountOf b l) (ranged b l (row .file)) left w (row .row) o links
-        (out-of-lanes (accountOf b l .positionAt w) (sym test-is ∙ e)) f
+  -- Its first places: a written row is in no lane itself.
+  pub starts : pairsAsWritten (accountOf b l .positionAt w) ≡ true → (o : ℕ) (links : List ℕ) → Links (accountOf b l) o links
+      → Cursor (accountOf b l) left o w (nth links (o + w))
+  starts e o links f =
+      cursor-starts (accountOf b l) (ranged b l (row .file)) left w (row .row) o links
+      (out-of-lanes (accountOf b l .positionAt w) e) f
 
   pair-at : (o u : ℕ) → AtOpen (accountOf b l) left o w u → AtPair (accountOf b l) left o w u
   pair-at o u c =

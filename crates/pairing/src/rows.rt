@@ -14,16 +14,70 @@ use account::lookup::series_of_position;
 use position::margin::unit_margin;
 use position::quantities::normalised;
 use rules::Layout;
+use rules::Position;
+use rules::Series;
 ghost use Prim.Native.Nat.{_+_, _≤_, _<_};
 ghost use lib.ListN.{length};
 ghost use lib.Dec.{ltb};
 ghost use mathlib.Core.Bool.{true, _&&_};
 ghost use mathlib.Core.Path.{_≡_};
-ghost use Rattle.pairing.specs.Cursors.{Begun, BestRank, BothLinks, Kept, Leaves, Lines, Live, Looked, Places, PlacesPut, Raised, Renewed, Row, RowPut, Stale, StaleLeast, Standings, standing};
+ghost use Rattle.pairing.specs.Cursors.{Begun, BestRank, BothLinks, Kept, Leaves, Lines, Live, Looked, Places, PlacesPut, Raised, Renewed, Row, RowPut, RowRead, Stale, StaleLeast, Standings, standing};
 ghost use Rattle.pairing.specs.Tree.{Tree};
 ghost use Rattle.account.specs.Known.{Known};
 ghost use Rattle.pairing.specs.Keys.{nth};
 ghost use Rattle.rules.specs.File.{accountOf};
+
+// Row w at the start, read as p, of series s: its places in both lanes.
+fn first_places(
+    file: &[u8],
+    l: Layout,
+    left: &[u64],
+    links: &[u64],
+    w: usize,
+    p: Position,
+    s: Series,
+    unit: u64,
+) -> Standing
+    requires { ⌜ Row (now file) l (now left) w × BothLinks (accountOf (now file) l) (now links) × RowRead (accountOf (now file) l) w p unit × (s ≡ accountOf (now file) l .seriesAt (p .series)) ⌝ }
+    ensures { λ t. ⌜ Kept (accountOf (now (file .entry)) l) (now (left .entry)) w t ⌝ }
+{
+    let t = normalised(p);
+    let top = top_of(256, p);
+    let up = seek(
+        file,
+        l,
+        left,
+        links,
+        256,
+        w,
+        t,
+        s,
+        unit,
+        links[256 + w],
+        top,
+    );
+    let top = top_of(512, p);
+    let down = seek(
+        file,
+        l,
+        left,
+        links,
+        512,
+        w,
+        t,
+        s,
+        unit,
+        links[512 + w],
+        top,
+    );
+    let rank = row_rank(file, l, left, w, p, up, down);
+    Standing {
+        rank,
+        up,
+        down,
+        unit,
+    }
+}
 
 // Row w at the start.
 fn first_standing(file: &[u8], l: Layout, left: &[u64], links: &[u64], w: usize) -> Standing
@@ -40,43 +94,7 @@ fn first_standing(file: &[u8], l: Layout, left: &[u64], links: &[u64], w: usize)
         };
     }
     let s = series_of_position(file, l, p);
-    let unit = unit_margin(s, p);
-    let terms = normalised(p);
-    let up_top = top_of(256, p);
-    let up = seek(
-        file,
-        l,
-        left,
-        links,
-        256,
-        w,
-        terms,
-        s,
-        unit,
-        links[256 + w],
-        up_top,
-    );
-    let down_top = top_of(512, p);
-    let down = seek(
-        file,
-        l,
-        left,
-        links,
-        512,
-        w,
-        terms,
-        s,
-        unit,
-        links[512 + w],
-        down_top,
-    );
-    let rank = row_rank(file, l, left, w, p, up, down);
-    Standing {
-        rank,
-        up,
-        down,
-        unit,
-    }
+    first_places(file, l, left, links, w, p, s, unit_margin(s, p))
 }
 
 // Row w looked at again, from the places in t.

@@ -8,6 +8,7 @@ use rules::Terms;
 ghost use mathlib.Core.Path.{_≡_};
 ghost use Rattle.rules.proofs.SpreadForms.{knockIn};
 ghost use Rattle.rules.specs.Pairs.{europeanOrBeforeAnnex, isHeld, isWritten};
+ghost use Rattle.rules.specs.declared.Barrier.the-variants.{NoBarrier};
 ghost use Rattle.rules.specs.Spreads.{hasLimiter, kindOf, priceOf, same, sameBarrier, sameLimiter, strikeCovers};
 
 pub fn kind_of(barrier: Barrier) -> u32
@@ -59,18 +60,24 @@ fn same_limiter(h: Limiter, w: Limiter) -> bool
     }
 }
 
+fn is_without_barrier(w: Barrier) -> bool
+    ensures { λ r. ⌜ r ≡ sameBarrier NoBarrier w ⌝ }
+{
+    match w {
+        Barrier::NoBarrier => true,
+        Barrier::UpIn(_) => false,
+        Barrier::DownIn(_) => false,
+        Barrier::UpOut(_) => false,
+        Barrier::DownOut(_) => false,
+    }
+}
+
 // The same kind of barrier at the same price.
 fn same_barrier(h: Barrier, w: Barrier) -> bool
     ensures { λ r. ⌜ r ≡ sameBarrier h w ⌝ }
 {
     match h {
-        Barrier::NoBarrier => match w {
-            Barrier::NoBarrier => true,
-            Barrier::UpIn(_) => false,
-            Barrier::DownIn(_) => false,
-            Barrier::UpOut(_) => false,
-            Barrier::DownOut(_) => false,
-        },
+        Barrier::NoBarrier => is_without_barrier(w),
         Barrier::UpIn(held) => match w {
             Barrier::NoBarrier => false,
             Barrier::UpIn(written) => held == written,
