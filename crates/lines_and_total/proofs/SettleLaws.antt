@@ -2,7 +2,7 @@
 -- and the total.
 -- Assumes nothing.
 use Prim.Native.Nat.{ℕ, _+_, _≤_, _<_, min}
-use mathlib.Core.List.{List, [], _∷_, _++_}
+use mathlib.Core.List.{List, _++_}
 use mathlib.Core.Path.{_≡_, refl, sym, ap, ap₂, _∙_}
 use native.Mathlib.Omega.{arith}
 use lib.ListN.{length, length-append}
@@ -19,12 +19,12 @@ use Rattle.lines_and_total.specs.Settled.{Settled}
 use Rattle.rules.specs.Output.{premiumsFor}
 use Rattle.rules.proofs.Answers.{answer-read, given-read}
 use Rattle.rules.proofs.Counts.{bound, openRows}
-use Rattle.rules.proofs.LineLaws.{length-pairLines, line-count, lines-are}
+use Rattle.rules.proofs.LineLaws.{length-pairLines, line-count, lines-are, sum-pairs}
 use Rattle.rules.proofs.Rounds.{left-falls}
 use Rattle.rules.proofs.Sums.{sumOver-append, sumTo-same}
 use Rattle.rules.specs.File.{Account, accountOf}
-use Rattle.rules.specs.Lines.{leftLines, lineAmount, lines, pairLines, premiums, spreadAmount, sumOver, total}
-use Rattle.rules.specs.Pairs.{Made, available, bookOf, contractsAfter, pairsAfter}
+use Rattle.rules.specs.Lines.{leftLines, lineAmount, lines, pairLines, premiums, sumOver, total}
+use Rattle.rules.specs.Pairs.{available, bookOf, contractsAfter, pairsAfter}
 use Rattle.rules.specs.Refusals.{fileRead}
 use Rattle.rules.specs.declared.FileRead.{FileRead}
 use Rattle.rules.specs.declared.FileRead.the-variants.{Accepted, Refused}
@@ -32,12 +32,6 @@ use Rattle.rules.specs.declared.Layout.{Layout}
 use Rattle.rules.specs.declared.MarginAnswer.the-variants.{NoTotal, Total}
 use Rattle.rules.specs.declared.Refusal.{Refusal}
 use Rattle.rules.specs.declared.Refusal.the-variants.{ListTooShort}
-
--- The amounts of the pair lines are the pairs' own.
-sum-pairs : (a : Account) (l : List Made) → sumOver lineAmount (pairLines a l) ≡ sumOver (spreadAmount a) l
-unfolding sumOver pairLines
-sum-pairs a [] = refl
-sum-pairs a (m ∷ l) = rw (sum-pairs a l)
 
 pub pairing-asks : (b : List ℕ) (l : Layout) (left numbers : List ℕ) → Known b l → length left ≡ 256 → length numbers ≡ 1280
     → ContractsTo (accountOf b l) left (l .positions) → PairingAsked b l left numbers
@@ -86,7 +80,7 @@ account-listed b l n₀ left n n′ t t′ k en p f =
             arith,
             f .total-is,
             p .total-is,
-            sum-pairs a (pairsAfter a (l .positions)),
+            sum-pairs a lineAmount (pairsAfter a (l .positions)),
             sumOver-append lineAmount pairs (leftLines a (nth left) (l .positions)),
             ap (sumOver lineAmount) all,
           );

@@ -39,16 +39,6 @@ pub record Filled (old t : List ℕ) (i : ℕ) : Type 0 where
   pub leaves : SameLeaves old t
   pub same-length : length t ≡ length old
 
-pub fill-none : (old : List ℕ) → Filled old old 256
-fill-none old =
-    record {
-      low = omega arith;
-      high = omega arith;
-      nodes = λ j a b. absurd (omega arith);
-      leaves = λ w l. refl;
-      same-length = refl;
-    }
-
 pub fill-more : (old t : List ℕ) (i y : ℕ) → 512 ≤ length old → 1 < i → Filled old t i
     → y ≡ min (nth t (2 * (i - 1))) (nth t (2 * (i - 1) + 1)) → Filled old (set t (i - 1) y) (i - 1)
 fill-more old t i y long more f e =

@@ -32,7 +32,8 @@ unfolding total
 total-is a = refl
 
 module _ (a : Account) (f : Line → ℕ) where
-  sum-pairs : (l : List Made) → sumOver f (pairLines a l) ≡ sumOver (λ m. f (pairLine a m)) l
+  -- The sum over the pair lines is that over the pairs.
+  pub sum-pairs : (l : List Made) → sumOver f (pairLines a l) ≡ sumOver (λ m. f (pairLine a m)) l
   unfolding sumOver pairLines
   sum-pairs [] = refl
   sum-pairs (m ∷ l) = rw (sum-pairs l)

@@ -137,16 +137,6 @@ allowed-is k left w h lw lh e =
 pub is-allowed : (k : Book) (left : ℕ → ℕ) (w h : ℕ) → Allowed k left w h → allowed k left w h ≡ true
 is-allowed k left w h a = rw (a .may-pair, lt-ltb 0 (left w) (a .written-left), lt-ltb 0 (left h) (a .held-left))
 
--- A pair that is allowed was allowed while its rows had more contracts left.
-pub still-allowed : (k : Book) (left left′ : ℕ → ℕ) (w h : ℕ) → left′ w ≤ left w → left′ h ≤ left h
-    → allowed k left′ w h ≡ true → allowed k left w h ≡ true
-still-allowed k left left′ w h lw lh e =
-    let may = both (k .may w h) (ltb 0 (left′ w) && ltb 0 (left′ h)) e in
-    let some = both (ltb 0 (left′ w)) (ltb 0 (left′ h)) (may .1) in
-    let lw′ = ltb-true 0 (left′ w) (some .0) in
-    let lh′ = ltb-true 0 (left′ h) (some .1) in
-    rw (may .0, lt-ltb 0 (left w) (omega arith), lt-ltb 0 (left h) (omega arith))
-
 module _ (k : Book) (left : ℕ → ℕ) where
   found : {c : Choice} → choice k left ≡ c → Found k left (λ v g. (v < k .rows) × (g < k .rows)) c
   found e = subst (Found k left (λ v g. (v < k .rows) × (g < k .rows))) e (choice-found k left)
