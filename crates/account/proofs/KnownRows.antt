@@ -5,11 +5,12 @@ use mathlib.Core.List.{List}
 use mathlib.Core.Path.{_≡_, sym, subst}
 use Rattle.rules.proofs.Reading.{read-within}
 use Rattle.rules.proofs.TrailerLimits as TrailerLimits
-use Rattle.rules.specs.File.{layout, positionRow, seriesRow}
+use Rattle.rules.specs.File.{accountOf, layout, positionRow, seriesRow}
 use Rattle.rules.specs.Limits.{FileWithin, Placed, PositionWithin, SeriesWithin}
 use Rattle.rules.specs.Refusals.{fileRead}
 use Rattle.rules.specs.declared.FileRead.the-variants.{Accepted}
 use Rattle.rules.specs.declared.Layout.{Layout}
+use Rattle.rules.specs.declared.Position.{Position}
 use Rattle.account.specs.Known.{Known}
 
 pub known : (b : List ℕ) (l : Layout) → fileRead b ≡ Accepted l → Known b l
@@ -40,6 +41,10 @@ module _ (b : List ℕ) (l : Layout) (k : Known b l) where
 
   pub series-below : (i : ℕ) → i < l .positions → positionRow b l i .series < l .series
   series-below i h = position-within i h .series-below
+
+  -- The same of a position as it was read.
+  pub read-series-below : (i : ℕ) → i < l .positions → (p : Position) → p ≡ accountOf b l .positionAt i → p .series < l .series
+  read-series-below i h p e = subst (λ (q : Position). q .series < l .series) (sym e) (series-below i h)
 
   pub row-series : (i : ℕ) → i < l .positions → SeriesWithin (seriesRow b l (positionRow b l i .series))
   row-series i h = series-within (positionRow b l i .series) (series-below i h)

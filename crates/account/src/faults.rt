@@ -10,39 +10,46 @@ use crate::rows::position_count;
 use crate::rows::series_count;
 use crate::rows::trailer_spare;
 use rules::Fault;
+use rules::MOST_BYTES;
+use rules::MOST_POSITIONS;
+use rules::MOST_SERIES;
+use rules::POSITION_WIDTH;
 use rules::PositionRow;
 use rules::Refusal;
+use rules::SERIES_WIDTH;
 use rules::SeriesRow;
+use rules::TRAILER_WIDTH;
 ghost use mathlib.Core.Path.{_≡_};
 ghost use Prim.Native.Nat.{_≤_};
 ghost use lib.ListN.{length};
+ghost use Rattle.rules.specs.File.{trailerWidth};
 ghost use Rattle.rules.specs.Refusals.{matchedFault, seriesRowFault, trailerFault, wrongDistance, wrongTrailer};
 
 fn wrong_trailer(file: &[u8]) -> bool
-    requires { ⌜ 12 ≤ length (now file) ⌝ }
+    requires { ⌜ trailerWidth ≤ length (now file) ⌝ }
     ensures { λ t. ⌜ t ≡ wrongTrailer (now (file .entry)) ⌝ }
 {
-    let s = series_count(file);
-    let p = position_count(file);
+    let s = series_count(file) as usize;
+    let p = position_count(file) as usize;
     let spare = trailer_spare(file);
-    ((s < 1) | (32 < s)) | (256 < p) | !(spare == 0)
+    ((s < 1) | (MOST_SERIES < s)) | (MOST_POSITIONS < p) | !(spare == 0)
 }
 
 fn wrong_distance(file: &[u8]) -> bool
-    requires { ⌜ 12 ≤ length (now file) ⌝ }
+    requires { ⌜ trailerWidth ≤ length (now file) ⌝ }
     ensures { λ t. ⌜ t ≡ wrongDistance (now (file .entry)) ⌝ }
 {
-    let s = series_count(file);
-    let p = position_count(file);
-    let distance = distance_back(file);
-    !(distance == 12 + 24 * s + 32 * p) | (file.len() < (distance as usize))
+    let s = series_count(file) as usize;
+    let p = position_count(file) as usize;
+    let distance = distance_back(file) as usize;
+    !(distance == TRAILER_WIDTH + SERIES_WIDTH * s + POSITION_WIDTH * p) | (file.len() < distance)
 }
 
 pub fn trailer_fault(file: &[u8]) -> Fault
     ensures { λ r. ⌜ r ≡ trailerFault (now (file .entry)) ⌝ }
 {
     let n = file.len();
-    if (n < 12) | (65_536 < n) {
+    if (n < TRAILER_WIDTH) | (MOST_BYTES < n) {
         return Fault::Found(Refusal::FileSize);
     }
     if wrong_trailer(file) {

@@ -4,39 +4,42 @@ use crate::bytes::u16_at;
 use crate::bytes::u24_at;
 use crate::bytes::u32_at;
 use rules::Layout;
+use rules::POSITION_WIDTH;
 use rules::PositionRow;
+use rules::SERIES_WIDTH;
 use rules::SeriesRow;
+use rules::TRAILER_WIDTH;
 ghost use Prim.Native.Nat.{_+_, _*_, _≤_, _<_};
 ghost use lib.ListN.{length};
 ghost use mathlib.Core.Path.{_≡_};
-ghost use Rattle.rules.specs.File.{distance, layout, positionCount, positionRow, positionRowFrom, seriesCount, seriesRow, seriesRowFrom, trailerSpare};
+ghost use Rattle.rules.specs.File.{distance, layout, positionCount, positionRow, positionRowFrom, positionWidth, seriesCount, seriesRow, seriesRowFrom, seriesWidth, trailerSpare, trailerWidth};
 ghost use Rattle.rules.specs.Limits.{Placed, TrailerWithin};
 
 // The trailer's four numbers.
 
 pub fn series_count(file: &[u8]) -> u32
-    requires { ⌜ 12 ≤ length (now file) ⌝ }
+    requires { ⌜ trailerWidth ≤ length (now file) ⌝ }
     ensures { λ r. ⌜ (r ≡ seriesCount (now (file .entry))) × (r < 65536) ⌝ }
 {
-    u16_at(file, file.len() - 12)
+    u16_at(file, file.len() - TRAILER_WIDTH)
 }
 
 pub fn position_count(file: &[u8]) -> u32
-    requires { ⌜ 12 ≤ length (now file) ⌝ }
+    requires { ⌜ trailerWidth ≤ length (now file) ⌝ }
     ensures { λ r. ⌜ (r ≡ positionCount (now (file .entry))) × (r < 65536) ⌝ }
 {
     u16_at(file, file.len() - 10)
 }
 
 pub fn distance_back(file: &[u8]) -> u32
-    requires { ⌜ 12 ≤ length (now file) ⌝ }
+    requires { ⌜ trailerWidth ≤ length (now file) ⌝ }
     ensures { λ r. ⌜ r ≡ distance (now (file .entry)) ⌝ }
 {
     u32_at(file, file.len() - 8)
 }
 
 pub fn trailer_spare(file: &[u8]) -> u32
-    requires { ⌜ 12 ≤ length (now file) ⌝ }
+    requires { ⌜ trailerWidth ≤ length (now file) ⌝ }
     ensures { λ r. ⌜ r ≡ trailerSpare (now (file .entry)) ⌝ }
 {
     u32_at(file, file.len() - 4)
@@ -54,13 +57,13 @@ pub fn layout_of(file: &[u8]) -> Layout
         series,
         positions,
         seriesStart: start,
-        positionsStart: start + 24 * series,
-        width: 32,
+        positionsStart: start + SERIES_WIDTH * series,
+        width: POSITION_WIDTH,
     }
 }
 
 pub fn series_row_from(file: &[u8], at: usize) -> SeriesRow
-    requires { ⌜ at + 24 ≤ length (now file) ⌝ }
+    requires { ⌜ at + seriesWidth ≤ length (now file) ⌝ }
     ensures { λ r. ⌜ r ≡ seriesRowFrom (now (file .entry)) at ⌝ }
 {
     SeriesRow {
@@ -75,7 +78,7 @@ pub fn series_row_from(file: &[u8], at: usize) -> SeriesRow
 }
 
 pub fn position_row_from(file: &[u8], at: usize) -> PositionRow
-    requires { ⌜ at + 32 ≤ length (now file) ⌝ }
+    requires { ⌜ at + positionWidth ≤ length (now file) ⌝ }
     ensures { λ r. ⌜ r ≡ positionRowFrom (now (file .entry)) at ⌝ }
 {
     PositionRow {
@@ -98,7 +101,7 @@ pub fn series_row(file: &[u8], l: Layout, i: usize) -> SeriesRow
     requires { ⌜ Placed (now file) l × (i < l .series) ⌝ }
     ensures { λ r. ⌜ r ≡ seriesRow (now (file .entry)) l i ⌝ }
 {
-    series_row_from(file, l.seriesStart + 24 * i)
+    series_row_from(file, l.seriesStart + SERIES_WIDTH * i)
 }
 
 // Position row i.

@@ -9,6 +9,7 @@ use native.Mathlib.Omega.{arith}
 use lib.ListN.{length, set, drop, take, getD, length-append, length-drop, take-append-drop}
 use lib.Seq.{append-snoc, drop-at, drop-cons, drop-set-add, length-take-le, set-at}
 use Rattle.lent.specs.Entries.{entriesWritten}
+use Rattle.lines.proofs.LinesHeld.{lines-count}
 use Rattle.lines.specs.LineNumbers.{lineFrom, linesFrom}
 use Rattle.rules.specs.declared.Line.{Line}
 
@@ -19,11 +20,6 @@ module _ {A : Type 0} where
   set-append-add (x ∷ p) q j a = ap (λ (k : ℕ). set (x ∷ p ++ q) k a) (suc-add (length p) j) ∙ ap (λ (l : List A). x ∷ l) (set-append-add p q j a)
 
 module _ (numbers : List ℕ) where
-  pub lines-count : (n : ℕ) → length (linesFrom numbers n) ≡ n
-  unfolding linesFrom
-  lines-count zero = refl
-  lines-count (suc n) = omega (arith, length-append (linesFrom numbers n) (lineFrom numbers n ∷ []), lines-count n)
-
   -- From entry 0: the first n lines of the numbers, and the entries after them.
   pub written-first : (n : ℕ) (ys : List Line) → entriesWritten numbers 0 n ys ≡ linesFrom numbers n ++ drop n ys
   unfolding entriesWritten
@@ -33,7 +29,7 @@ module _ (numbers : List ℕ) where
     -- Before the first store.
     pub written-none : entriesWritten numbers m m ys ≡ ys
     unfolding entriesWritten
-    written-none = ap (λ (r : List Line). take m ys ++ r) (drop-at (linesFrom numbers m) (drop m ys) m (lines-count m)) ∙ take-append-drop m ys
+    written-none = ap (λ (r : List Line). take m ys ++ r) (drop-at (linesFrom numbers m) (drop m ys) m (lines-count numbers m)) ∙ take-append-drop m ys
 
     pub written-length : (n : ℕ) → m ≤ n → n ≤ length ys → length (entriesWritten numbers m n ys) ≡ length ys
     unfolding entriesWritten
@@ -44,7 +40,7 @@ module _ (numbers : List ℕ) where
           length-take-le m ys (omega arith),
           length-drop m (linesFrom numbers n ++ drop n ys),
           length-append (linesFrom numbers n) (drop n ys),
-          lines-count n,
+          lines-count numbers n,
           length-drop n ys,
         )
 
@@ -54,7 +50,7 @@ module _ (numbers : List ℕ) where
     one-more n l =
         rw (add-one n)
         (ap (λ (t : List Line). set (linesFrom numbers n ++ t) n (lineFrom numbers n)) (drop-cons ys n (lineFrom numbers n) l)
-        ∙ set-at (linesFrom numbers n) (getD ys n (lineFrom numbers n)) (drop (suc n) ys) (lineFrom numbers n) n (lines-count n)
+        ∙ set-at (linesFrom numbers n) (getD ys n (lineFrom numbers n)) (drop (suc n) ys) (lineFrom numbers n) n (lines-count numbers n)
         ∙ sym (append-snoc (linesFrom numbers n) (lineFrom numbers n) (drop (suc n) ys)))
 
     -- One store more.

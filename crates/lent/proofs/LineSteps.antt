@@ -21,6 +21,7 @@ use denote.Laws.{Is}
 use denote.Memory.{cellAt}
 use denote.Index.{row, place}
 use denote.Struct.Laws as LL
+use Rattle.lines.specs.LineNumbers.{numbersPerLine}
 use Rattle.rules.specs.declared.Line.{Line}
 use Rattle.rules.proofs.Line as T
 use Rattle.rules.proofs.Line.Laws as T′
@@ -39,7 +40,7 @@ pub offset-fits : (i m : ℕ) → i < m → m * 40 < 2 ^ 63 → i * 40 < 2 ^ 64
 offset-fits i m l r = omega (arith, l, r)
 
 -- Line i is among the numbers' first n.
-pub line-there : (i n m : ℕ) → i < n → 5 * n ≤ m → 5 * i + 5 ≤ m
+pub line-there : (i n m : ℕ) → i < n → numbersPerLine * n ≤ m → numbersPerLine * i + numbersPerLine ≤ m
 line-there i n m l r = omega (arith, l, r)
 
 module _ {M : Type 1} (𝓤 : URA M) (H : Heap 𝓤) (A : Atoms 𝓤) (W : Given 𝓤 H A) where

@@ -4,6 +4,7 @@
 use Rattle.lent.proofs.Walk.{_≡_, refl, ℕ, _<_, _≤_, _^_, _*_, [], _∷_, List, length, URA, fullShare, named, w64, Val, vint, SProp, ent, id⊢, Lft, Share, GName, Fml, ftrue, flft, flent, Memory, Routine, Heap, Env, Calls, Loops, Atoms, Fun, Ends, lands, Given, Item, runs, ‵, raw, _⊛_, ⋆, _$_, _∵_, !, qed, move, split, join, rewrite, fsplit, fjoin, frame, done, drop, use3, feqL, Seq, FmC, Is, shares, uint-makes, usize, u64, unit, RefT, sliceVal, MutSlice, ShrSlice, finally, row, owned, nothing, tripleOf, Contract, Triple, calls-at, lasts, says, arr-parts}
 use mir.Syntax.{Place, Opd as Operand, Body, seq, call}
 use types.Run.{Opds}
+use Rattle.lines.specs.LineNumbers.{mostNumbers, numbersPerLine}
 use Rattle.rules.specs.declared.Line.{Line}
 use Rattle.lent.specs.Entries.{entriesWritten}
 use Rattle.lent.proofs.Calling.{returned}
@@ -19,7 +20,7 @@ module _ {M : Type 1} (𝓤 : URA M) (H : Heap 𝓤) (A : Atoms 𝓤) (mem : Mem
 
 -- Entries m to n - 1 of lines, x, are written out of the numbers in the block l.
 module _ {M : Type 1} (𝓤 : URA M) (H : Heap 𝓤) (A : Atoms 𝓤) (W : Given 𝓤 H A) (mem : Memory → SProp 𝓤) (run : Routine → Fun 𝓤) (κ : Lft) (p : Share) (x : RefT (List Line)) (m n : ℕ) (m-fits : m < 2 ^ 64) (n-fits : n < 2 ^ 64)
-    (l : ℕ) (numbers : List ℕ) (long : length numbers ≡ 1280) (fit : (m ≤ n) × (n ≤ length (x .now)) × (5 * n ≤ length numbers)) where
+    (l : ℕ) (numbers : List ℕ) (long : length numbers ≡ mostNumbers) (fit : (m ≤ n) × (n ≤ length (x .now)) × (numbersPerLine * n ≤ length numbers)) where
   abbrev s : Val
   s = sliceVal (x .ptr) (length (x .now))
 

@@ -1,8 +1,8 @@
--- The array of numbers of an operation, `[0; 1280]` in a local: 256 lines of five numbers. `zeros` is kept shut, so that no
+-- The array of numbers of an operation, `[0; MOST_NUMBERS]` in a local. `zeros` is kept shut, so that no
 -- check computes through its elements. Assumes `Given`.
 --     init-zeros       the array is stored in a local, which is its elements side by side from then on: what is lent
 --     rows-room        once they are back the local is room, as the return asks
---     array, array-slice, array-room   the array while it is lent, the slice that lends it, and that 1280 numbers can be lent
+--     array, array-slice, array-room   the array while it is lent, the slice that lends it, and that so many numbers can be lent
 --     zeros-line       its lines are all zeros. It waits for request 8, which writes such lines
 use mathlib.Core.Path.{_≡_, refl, subst, sym}
 use Prim.Native.Nat.{ℕ, zero, suc, _+_, _*_}
@@ -31,17 +31,17 @@ use denote.Index.{row}
 use denote.Ref.{RefT}
 use denote.Slice.{Room, sliceVal}
 use borrow.Table.OneValue.{part-in, part-out}
-use Rattle.lines.specs.LineNumbers.{lineFrom}
+use Rattle.lines.specs.LineNumbers.{lineFrom, mostNumbers, numbersPerLine}
 use Rattle.lent.proofs.LineSteps.{noLine}
 
 pub zeros : List ℕ
-zeros = replicate 1280 0
+zeros = replicate mostNumbers 0
 
-pub zeros-length : length zeros ≡ 1280
+pub zeros-length : length zeros ≡ mostNumbers
 unfolding zeros
-zeros-length = length-replicate {A = ℕ} 1280 0
+zeros-length = length-replicate {A = ℕ} mostNumbers 0
 
-pub array-room : (n : ℕ) → n ≡ 1280 → Room u64 n
+pub array-room : (n : ℕ) → n ≡ mostNumbers → Room u64 n
 array-room n e = subst (Room u64) (sym e) (lit< tt, lit< tt)
 
 -- It lies in the block l and is lent under the name δ.
@@ -49,17 +49,17 @@ abbrev pub array : ℕ → GName → List ℕ → RefT (List ℕ)
 array l δ numbers = record { ptr = (l, 0); name = δ; now = numbers }
 
 abbrev pub array-slice : ℕ → Val
-array-slice l = sliceVal (l, 0) 1280
+array-slice l = sliceVal (l, 0) mostNumbers
 
--- The machine value that `[0; 1280]` makes.
+-- The machine value that `[0; MOST_NUMBERS]` makes.
 abbrev pub zeros-val : Val
-zeros-val = arrayVal (replicate 1280 (vint w64 0))
+zeros-val = arrayVal (replicate mostNumbers (vint w64 0))
 
 module _ {M : Type 1} (𝓤 : URA M) (H : Heap 𝓤) (A : Atoms 𝓤) (W : Given 𝓤 H A) where
   -- What the array owns.
-  zeros-own : ent 𝓤 (sem 𝓤 H A (u64 .own 0 (vint w64 0 ∷ []))) (sem 𝓤 H A (Array u64 1280 .own zeros (zeros-val ∷ [])))
+  zeros-own : ent 𝓤 (sem 𝓤 H A (u64 .own 0 (vint w64 0 ∷ []))) (sem 𝓤 H A (Array u64 mostNumbers .own zeros (zeros-val ∷ [])))
   unfolding zeros
-  zeros-own = array-repeat 𝓤 H A W u64 (uint-copy 𝓤 H A W w64) 1280 0 (vint w64 0)
+  zeros-own = array-repeat 𝓤 H A W u64 (uint-copy 𝓤 H A W w64) mostNumbers 0 (vint w64 0)
 
   module _ (n : ℕ) (xs : List ℕ) (b : ℕ) where
     -- A local that holds an array whole is its elements.
@@ -77,37 +77,37 @@ module _ {M : Type 1} (𝓤 : URA M) (H : Heap 𝓤) (A : Atoms 𝓤) (W : Given
         pick ! (λ v. split ! $ keep ! (0 ∷ []) $ by ! (W .laws .at-room (tyArray (tyInt w64) n) b 0 v))
 
 -- The local is room, entry n; its elements stand at the head afterwards.
-pub init-zeros : {M : Type 1} {𝓤 : URA M} {H : Heap 𝓤} {A : Atoms 𝓤} {K : Type 0} {W : Given 𝓤 H A} {Γ : List (Item 𝓤)} → K → (n : ℕ) {b : ℕ} → nth 𝓤 H A n Γ ≡ ‵ (froom (tyArray (tyInt w64) 1280) b 0)
-    → Writes K W Γ (tyArray (tyInt w64) 1280) b 0 zeros-val (‵ (row u64 fullShare zeros b 0) ∷ del 𝓤 H A n Γ)
+pub init-zeros : {M : Type 1} {𝓤 : URA M} {H : Heap 𝓤} {A : Atoms 𝓤} {K : Type 0} {W : Given 𝓤 H A} {Γ : List (Item 𝓤)} → K → (n : ℕ) {b : ℕ} → nth 𝓤 H A n Γ ≡ ‵ (froom (tyArray (tyInt w64) mostNumbers) b 0)
+    → Writes K W Γ (tyArray (tyInt w64) mostNumbers) b 0 zeros-val (‵ (row u64 fullShare zeros b 0) ∷ del 𝓤 H A n Γ)
 init-zeros {M} {𝓤} {H} {A} {K} {W} {Γ} t n {b} e = record {
-  go = λ P h. fact-use 𝓤 (Is (Array u64 1280) zeros (zeros-val ∷ [])) known (λ is.
+  go = λ P h. fact-use 𝓤 (Is (Array u64 mostNumbers) zeros (zeros-val ∷ [])) known (λ is.
       via 𝓤 (sep 𝓤 (H .room τ b 0) (wand 𝓤 (H .at fullShare τ b 0 zeros-val) P))
       (via 𝓤 (sep 𝓤 (H .room τ b 0) Rest) (subst (λ (j : Item 𝓤). ent 𝓤 (⋆ 𝓤 H A Γ) (sep 𝓤 (mean 𝓤 H A j) Rest)) e (pull 𝓤 H A n Γ))
       (monoR 𝓤 (H .room τ b 0) (wandI 𝓤 Rest (H .at fullShare τ b 0 zeros-val) P
       (via 𝓤 (sep 𝓤 (H .at fullShare τ b 0 zeros-val) Rest) (comm∗ 𝓤 Rest (H .at fullShare τ b 0 zeros-val))
       (via 𝓤 (sep 𝓤 (sem 𝓤 H A (row u64 fullShare zeros b 0)) Rest) (monoL 𝓤 Rest made)
       (via 𝓤 (⋆ 𝓤 H A (‵ (row u64 fullShare zeros b 0) ∷ del 𝓤 H A n Γ)) (push 𝓤 H A (‵ (row u64 fullShare zeros b 0)) (del 𝓤 H A n Γ)) h))))))
-      (guardI 𝓤 _ (sep 𝓤 (H .room τ b 0) (wand 𝓤 (H .at fullShare τ b 0 zeros-val) P)) (array-lawful 𝓤 H A W u64 (uint-lawful 𝓤 H A W w64) 1280 .typed zeros _ is .0)));
+      (guardI 𝓤 _ (sep 𝓤 (H .room τ b 0) (wand 𝓤 (H .at fullShare τ b 0 zeros-val) P)) (array-lawful 𝓤 H A W u64 (uint-lawful 𝓤 H A W w64) mostNumbers .typed zeros _ is .0)));
 }
   where
     τ : Ty
-    τ = tyArray (tyInt w64) 1280
+    τ = tyArray (tyInt w64) mostNumbers
 
     Rest : SProp 𝓤
     Rest = ⋆ 𝓤 H A (del 𝓤 H A n Γ)
 
-    own : ent 𝓤 (emp 𝓤) (sem 𝓤 H A (Array u64 1280 .own zeros (zeros-val ∷ [])))
+    own : ent 𝓤 (emp 𝓤) (sem 𝓤 H A (Array u64 mostNumbers .own zeros (zeros-val ∷ [])))
     own = via 𝓤 (sem 𝓤 H A (u64 .own 0 (vint w64 0 ∷ []))) (uint-makes 𝓤 H A W w64 0 (vint w64 0 ∷ []) (refl, lit< tt)) (zeros-own 𝓤 H A W)
 
     made : ent 𝓤 (H .at fullShare τ b 0 zeros-val) (sem 𝓤 H A (row u64 fullShare zeros b 0))
-    made = qed W (‵ (fat fullShare τ b 0 zeros-val) ∷ []) ∵ use0 W (‵ (Array u64 1280 .own zeros (zeros-val ∷ []))) own $ move ! (1 ∷ 0 ∷ []) $ by ! (array-rows 𝓤 H A W 1280 zeros b zeros-val)
+    made = qed W (‵ (fat fullShare τ b 0 zeros-val) ∷ []) ∵ use0 W (‵ (Array u64 mostNumbers .own zeros (zeros-val ∷ []))) own $ move ! (1 ∷ 0 ∷ []) $ by ! (array-rows 𝓤 H A W mostNumbers zeros b zeros-val)
 
-    known : ent 𝓤 (⋆ 𝓤 H A Γ) (fact 𝓤 (Is (Array u64 1280) zeros (zeros-val ∷ [])))
-    known = via 𝓤 (emp 𝓤) (via 𝓤 (sep 𝓤 (emp 𝓤) (⋆ 𝓤 H A Γ)) (emp∗ 𝓤 (⋆ 𝓤 H A Γ)) (fst∗ 𝓤 (emp 𝓤) (⋆ 𝓤 H A Γ))) (via 𝓤 (sem 𝓤 H A (Array u64 1280 .own zeros (zeros-val ∷ []))) own (shows 𝓤 H A (Array u64 1280) zeros (zeros-val ∷ [])))
+    known : ent 𝓤 (⋆ 𝓤 H A Γ) (fact 𝓤 (Is (Array u64 mostNumbers) zeros (zeros-val ∷ [])))
+    known = via 𝓤 (emp 𝓤) (via 𝓤 (sep 𝓤 (emp 𝓤) (⋆ 𝓤 H A Γ)) (emp∗ 𝓤 (⋆ 𝓤 H A Γ)) (fst∗ 𝓤 (emp 𝓤) (⋆ 𝓤 H A Γ))) (via 𝓤 (sem 𝓤 H A (Array u64 mostNumbers .own zeros (zeros-val ∷ []))) own (shows 𝓤 H A (Array u64 mostNumbers) zeros (zeros-val ∷ [])))
 
 pub zeros-line : (i : ℕ) → lineFrom zeros i ≡ noLine
 unfolding zeros
-zeros-line i = λ t. record { kind = none 1280 (5 * i) t; secondNumber = none 1280 (5 * i + 1) t; thirdNumber = none 1280 (5 * i + 2) t; fourthNumber = none 1280 (5 * i + 3) t; fifthNumber = none 1280 (5 * i + 4) t }
+zeros-line i = λ t. record { kind = none mostNumbers (numbersPerLine * i) t; secondNumber = none mostNumbers (numbersPerLine * i + 1) t; thirdNumber = none mostNumbers (numbersPerLine * i + 2) t; fourthNumber = none mostNumbers (numbersPerLine * i + 3) t; fifthNumber = none mostNumbers (numbersPerLine * i + 4) t }
   where
     none : (n j : ℕ) → _≡_ {A = ℕ} (getD (replicate n 0) j 0) 0
     none zero j = refl

@@ -6,10 +6,10 @@ use mathlib.Core.Path.{_≡_, _∙_}
 use native.Mathlib.Omega.{arith}
 use lib.ListN.{getD, length, set, length-set}
 use lib.Seq.{getD-set-other, getD-set-same}
-use Rattle.lines.specs.LineNumbers.{LineWritten}
+use Rattle.lines.specs.LineNumbers.{LineWritten, numbersPerLine}
 use Rattle.rules.specs.declared.Line.{Line}
 
-module _ (l : List ℕ) (n a b c d e : ℕ) (long : n + 5 ≤ length l) where
+module _ (l : List ℕ) (n a b c d e : ℕ) (long : n + numbersPerLine ≤ length l) where
   abbrev l₁ : List ℕ
   l₁ = set l n a
 
@@ -62,18 +62,18 @@ module _ (l : List ℕ) (n a b c d e : ℕ) (long : n + 5 ≤ length l) where
       ∙ getD-set-other l₁ (n + 1) i b 0 q
       ∙ getD-set-other l n i a 0 p
 
-pub line-written : (numbers : List ℕ) (k : ℕ) (x : Line) → 5 * k + 5 ≤ length numbers
-    → LineWritten k x numbers (set (set (set (set (set numbers (5 * k) (x .kind)) (5 * k + 1) (x .secondNumber)) (5 * k + 2) (x .thirdNumber)) (5 * k + 3) (x .fourthNumber)) (5 * k + 4) (x .fifthNumber))
+pub line-written : (numbers : List ℕ) (k : ℕ) (x : Line) → numbersPerLine * k + numbersPerLine ≤ length numbers
+    → LineWritten k x numbers (set (set (set (set (set numbers (numbersPerLine * k) (x .kind)) (numbersPerLine * k + 1) (x .secondNumber)) (numbersPerLine * k + 2) (x .thirdNumber)) (numbersPerLine * k + 3) (x .fourthNumber)) (numbersPerLine * k + 4) (x .fifthNumber))
 line-written numbers k x long =
     record {
       line-is =
           rw (
-            at-0 numbers (5 * k) (x .kind) (x .secondNumber) (x .thirdNumber) (x .fourthNumber) (x .fifthNumber) long,
-            at-1 numbers (5 * k) (x .kind) (x .secondNumber) (x .thirdNumber) (x .fourthNumber) (x .fifthNumber) long,
-            at-2 numbers (5 * k) (x .kind) (x .secondNumber) (x .thirdNumber) (x .fourthNumber) (x .fifthNumber) long,
-            at-3 numbers (5 * k) (x .kind) (x .secondNumber) (x .thirdNumber) (x .fourthNumber) (x .fifthNumber) long,
-            at-4 numbers (5 * k) (x .kind) (x .secondNumber) (x .thirdNumber) (x .fourthNumber) (x .fifthNumber) long,
+            at-0 numbers (numbersPerLine * k) (x .kind) (x .secondNumber) (x .thirdNumber) (x .fourthNumber) (x .fifthNumber) long,
+            at-1 numbers (numbersPerLine * k) (x .kind) (x .secondNumber) (x .thirdNumber) (x .fourthNumber) (x .fifthNumber) long,
+            at-2 numbers (numbersPerLine * k) (x .kind) (x .secondNumber) (x .thirdNumber) (x .fourthNumber) (x .fifthNumber) long,
+            at-3 numbers (numbersPerLine * k) (x .kind) (x .secondNumber) (x .thirdNumber) (x .fourthNumber) (x .fifthNumber) long,
+            at-4 numbers (numbersPerLine * k) (x .kind) (x .secondNumber) (x .thirdNumber) (x .fourthNumber) (x .fifthNumber) long,
           );
-      before = λ i l. elsewhere numbers (5 * k) (x .kind) (x .secondNumber) (x .thirdNumber) (x .fourthNumber) (x .fifthNumber) long i (λ (e : i ≡ 5 * k). omega arith) (λ (e : i ≡ 5 * k + 1). omega arith) (λ (e : i ≡ 5 * k + 2). omega arith) (λ (e : i ≡ 5 * k + 3). omega arith) (λ (e : i ≡ 5 * k + 4). omega arith);
-      after = λ i l. elsewhere numbers (5 * k) (x .kind) (x .secondNumber) (x .thirdNumber) (x .fourthNumber) (x .fifthNumber) long i (λ (e : i ≡ 5 * k). omega arith) (λ (e : i ≡ 5 * k + 1). omega arith) (λ (e : i ≡ 5 * k + 2). omega arith) (λ (e : i ≡ 5 * k + 3). omega arith) (λ (e : i ≡ 5 * k + 4). omega arith);
+      before = λ i l. elsewhere numbers (numbersPerLine * k) (x .kind) (x .secondNumber) (x .thirdNumber) (x .fourthNumber) (x .fifthNumber) long i (λ (e : i ≡ numbersPerLine * k). omega arith) (λ (e : i ≡ numbersPerLine * k + 1). omega arith) (λ (e : i ≡ numbersPerLine * k + 2). omega arith) (λ (e : i ≡ numbersPerLine * k + 3). omega arith) (λ (e : i ≡ numbersPerLine * k + 4). omega arith);
+      after = λ i l. elsewhere numbers (numbersPerLine * k) (x .kind) (x .secondNumber) (x .thirdNumber) (x .fourthNumber) (x .fifthNumber) long i (λ (e : i ≡ numbersPerLine * k). omega arith) (λ (e : i ≡ numbersPerLine * k + 1). omega arith) (λ (e : i ≡ numbersPerLine * k + 2). omega arith) (λ (e : i ≡ numbersPerLine * k + 3). omega arith) (λ (e : i ≡ numbersPerLine * k + 4). omega arith);
     }

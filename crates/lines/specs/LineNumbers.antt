@@ -3,19 +3,27 @@ use Prim.Native.Nat.{ℕ, zero, suc, _+_, _*_, _≤_, _<_}
 use mathlib.Core.List.{List, [], _∷_, _++_}
 use mathlib.Core.Path.{_≡_}
 use lib.ListN.{getD}
+use Rattle.rules.specs.Lines.{mostLines}
 use Rattle.rules.specs.declared.Line.{Line}
 use Rattle.rules.specs.declared.MarginAnswer.{MarginAnswer}
 use Rattle.rules.specs.declared.MarginAnswer.the-variants.{Total, NoTotal}
+
+-- "An entry is five whole numbers". The numbers of one line, and those of as many lines as an account has at most.
+abbrev pub numbersPerLine : ℕ
+numbersPerLine = 5
+
+abbrev pub mostNumbers : ℕ
+mostNumbers = numbersPerLine * mostLines
 
 -- Line i of the numbers.
 abbrev pub lineFrom : List ℕ → ℕ → Line
 lineFrom numbers i =
     record {
-      kind = getD numbers (5 * i) 0;
-      secondNumber = getD numbers (5 * i + 1) 0;
-      thirdNumber = getD numbers (5 * i + 2) 0;
-      fourthNumber = getD numbers (5 * i + 3) 0;
-      fifthNumber = getD numbers (5 * i + 4) 0;
+      kind = getD numbers (numbersPerLine * i) 0;
+      secondNumber = getD numbers (numbersPerLine * i + 1) 0;
+      thirdNumber = getD numbers (numbersPerLine * i + 2) 0;
+      fourthNumber = getD numbers (numbersPerLine * i + 3) 0;
+      fifthNumber = getD numbers (numbersPerLine * i + 4) 0;
     }
 
 -- The first n lines of the numbers.
@@ -31,5 +39,5 @@ lineCount (NoTotal w i) = 0
 -- What writing line k leaves: that line, and the numbers before and after it as they were.
 pub record LineWritten (k : ℕ) (line : Line) (old new : List ℕ) : Type 0 where
   pub line-is : lineFrom new k ≡ line
-  pub before : (i : ℕ) → i < 5 * k → getD new i 0 ≡ getD old i 0
-  pub after : (i : ℕ) → 5 * k + 5 ≤ i → getD new i 0 ≡ getD old i 0
+  pub before : (i : ℕ) → i < numbersPerLine * k → getD new i 0 ≡ getD old i 0
+  pub after : (i : ℕ) → numbersPerLine * k + numbersPerLine ≤ i → getD new i 0 ≡ getD old i 0

@@ -12,7 +12,7 @@ use Rattle.account.specs.Known.{Known}
 use Rattle.pairing.specs.Keys.{nth}
 use Rattle.pairing.specs.Pairing.{Paired, PairingAsked}
 use Rattle.pairing.specs.declared.Tally.{Tally}
-use Rattle.lines.specs.LineNumbers.{linesFrom}
+use Rattle.lines.specs.LineNumbers.{linesFrom, mostNumbers}
 use Rattle.lines_and_total.proofs.ListingLaws.{left-same}
 use Rattle.lines_and_total.specs.Listing.{AccountListed, Added, ContractsTo, RowsAsked}
 use Rattle.lines_and_total.specs.Settled.{Settled}
@@ -91,7 +91,7 @@ account-listed b l n₀ left n n′ t t′ k en p f =
 pub premiums-read : (b : List ℕ) (x : FileRead) → fileRead b ≡ x → premiumsFor b (fileRead b) ≡ premiumsFor b x
 premiums-read b x e = ap (premiumsFor b) e
 
-module _ (b : List ℕ) (room : ℕ) (numbers : List ℕ) (en : length numbers ≡ 1280) where
+module _ (b : List ℕ) (room : ℕ) (numbers : List ℕ) (en : length numbers ≡ mostNumbers) where
   pub settled-refused : (w : Refusal) (i : ℕ) → fileRead b ≡ Refused w i → Settled b room numbers (NoTotal w i)
   unfolding linesFrom
   settled-refused w i e =

@@ -3,8 +3,8 @@ use Prim.Native.Nat.{ℕ, _≤_}
 use mathlib.Core.List.{List}
 use mathlib.Core.Path.{_≡_}
 use lib.ListN.{length}
-use Rattle.lines.specs.LineNumbers.{lineCount, linesFrom}
-use Rattle.rules.specs.Lines.{linesGiven, marginAnswer}
+use Rattle.lines.specs.LineNumbers.{lineCount, linesFrom, mostNumbers}
+use Rattle.rules.specs.Lines.{linesGiven, marginAnswer, mostLines}
 use Rattle.rules.specs.declared.MarginAnswer.{MarginAnswer}
 
 -- The answer for a file and a list of `room` entries, and the lines as plain numbers.
@@ -12,5 +12,5 @@ pub record Settled (b : List ℕ) (room : ℕ) (numbers : List ℕ) (r : MarginA
   pub answer-is : r ≡ marginAnswer b room
   pub lines-are : linesFrom numbers (lineCount r) ≡ linesGiven b room
   pub count-most : lineCount r ≤ room
-  pub count-small : lineCount r ≤ 256
-  pub numbers-length : length numbers ≡ 1280
+  pub count-small : lineCount r ≤ mostLines
+  pub numbers-length : length numbers ≡ mostNumbers

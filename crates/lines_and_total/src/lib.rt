@@ -8,7 +8,7 @@ use rules::MarginAnswer;
 use rules::Refusal;
 ghost use lib.ListN.{length};
 ghost use mathlib.Core.Path.{_≡_};
-ghost use Rattle.lines.specs.LineNumbers.{lineCount};
+ghost use Rattle.lines.specs.LineNumbers.{lineCount, mostNumbers};
 ghost use Rattle.lines_and_total.specs.Settled.{Settled};
 ghost use Rattle.rules.specs.Output.{premiumsFor};
 ghost use Rattle.rules.specs.Refusals.{fileRead};
@@ -21,7 +21,7 @@ pub mod premium;
 
 // The account of an accepted file, or refusal 12 where the caller's list has fewer entries than the file has positions.
 fn settle_accepted(file: &[u8], l: Layout, room: usize, numbers: &mut [u64]) -> MarginAnswer
-    requires { ⌜ (fileRead (now file) ≡ Accepted l) × (length (now numbers) ≡ 1280) ⌝ }
+    requires { ⌜ (fileRead (now file) ≡ Accepted l) × (length (now numbers) ≡ mostNumbers) ⌝ }
     ensures { λ r. ⌜ Settled (now (file .entry)) room (now (numbers .exit)) r ⌝ }
 {
     if room < l.positions {
@@ -34,7 +34,7 @@ fn settle_accepted(file: &[u8], l: Layout, room: usize, numbers: &mut [u64]) -> 
 
 // The lines and the total of a file, for a caller's list of `room` entries, or the refusal: the reading's first, then 12.
 pub fn settle(file: &[u8], room: usize, numbers: &mut [u64]) -> MarginAnswer
-    requires { ⌜ length (now numbers) ≡ 1280 ⌝ }
+    requires { ⌜ length (now numbers) ≡ mostNumbers ⌝ }
     ensures { λ r. ⌜ Settled (now (file .entry)) room (now (numbers .exit)) r ⌝ }
 {
     match read_file(file) {

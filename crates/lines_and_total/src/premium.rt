@@ -6,12 +6,13 @@ use rules::Layout;
 use rules::Position;
 use rules::Series;
 use rules::Side;
-ghost use Prim.Native.Nat.{_≤_, _<_};
+ghost use Prim.Native.Nat.{_*_, _≤_, _<_};
 ghost use mathlib.Core.Path.{_≡_};
 ghost use Rattle.account.specs.Known.{Known};
 ghost use Rattle.lines_and_total.specs.Listing.{rowPremium};
 ghost use Rattle.position.specs.Fits.{RowFits};
 ghost use Rattle.rules.specs.File.{accountOf};
+ghost use Rattle.rules.specs.Limits.{mostPositions};
 ghost use Rattle.rules.specs.Lines.{heldPremium, premiums};
 
 // A held position's premium, 0 for a written one.
@@ -39,7 +40,7 @@ fn row_premium(file: &[u8], l: Layout, row: usize) -> u64
 // The premiums of all held rows, paired or not.
 pub fn premium_sum(file: &[u8], l: Layout) -> u64
     requires { ⌜ Known (now file) l ⌝ }
-    ensures { λ r. ⌜ (r ≡ premiums (accountOf (now (file .entry)) l)) × (r ≤ 256_000_000_000_000_000) ⌝ }
+    ensures { λ r. ⌜ (r ≡ premiums (accountOf (now (file .entry)) l)) × (r ≤ 1_000_000_000_000_000 * mostPositions) ⌝ }
 {
     let p = l.positions;
     let mut total: u64 = 0;

@@ -4,6 +4,7 @@
 use framing::Frame;
 use framing::next_file;
 use libc::STDOUT_FILENO;
+use rules::MOST_BYTES;
 ghost use lib.ListN.{length};
 ghost use mathlib.Core.Path.{_≡_};
 
@@ -26,7 +27,7 @@ fn report_next(space: &mut [u8]) -> bool
 }
 
 fn main() {
-    let mut space = [0u8; 65537];
+    let mut space = [0u8; MOST_BYTES + 1];
     let mut files: u32 = 0;
     while files < 1_000_000_000 {
         if !report_next(&mut space) {

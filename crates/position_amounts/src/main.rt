@@ -6,6 +6,8 @@ use libc::STDOUT_FILENO;
 use position::amount::amount_for_row;
 use refusals::refusal_number;
 use rules::AmountAnswer;
+use rules::MOST_BYTES;
+use rules::MOST_POSITIONS;
 use rules::Refusal;
 ghost use lib.ListN.{length};
 ghost use mathlib.Core.Path.{_≡_};
@@ -43,10 +45,11 @@ fn print_row(file: &[u8], row: u64) -> bool {
     }
 }
 
+// Writes the amount of each row, and the refusal that the row after the last one gets.
 fn print_amounts(file: &[u8]) {
-    let mut row: u64 = 0;
-    while row < 257 {
-        if !print_row(file, row) {
+    let mut row = 0;
+    while row <= MOST_POSITIONS {
+        if !print_row(file, row as u64) {
             return;
         }
         row += 1;
@@ -71,7 +74,7 @@ fn report_next(space: &mut [u8]) -> bool
 }
 
 fn main() {
-    let mut space = [0u8; 65537];
+    let mut space = [0u8; MOST_BYTES + 1];
     let mut files: u32 = 0;
     while files < 1_000_000_000 {
         if !report_next(&mut space) {

@@ -8,6 +8,7 @@ use native.Mathlib.Omega.{arith}
 use lib.Dec.{eqb, ltb}
 use borrow.Author.Tests.{eqb-true, eq-eqb, le-ltb, lt-ltb, ltb-true}
 use Rattle.rules.proofs.Tests.{both, either, refuted}
+use Rattle.rules.specs.Limits.{mostPositions}
 use Rattle.rules.specs.Pairs.{Book, ahead}
 
 -- Pair (w, h) with strike difference a comes before pair (v, g) with strike difference b.
@@ -99,11 +100,12 @@ module _ (k : Book) where
       before-neither (k .gap w h) w h (k .gap v g) v g (λ b. false≢true (sym p ∙ true-ahead w h v g b))
       (λ b. false≢true (sym q ∙ true-ahead v g w h b))
 
--- Rows below 256: one number carries the strike difference and both rows, and its order is that of the pairs.
+-- Rows of an account: one number carries the strike difference and both rows, and its order is that of the pairs. A row
+-- takes 8 bits of it, since there are at most 256.
 abbrev pub rank : Book → ℕ → ℕ → ℕ
 rank k w h = k .gap w h * 65_536 + w * 256 + h
 
-pub rank-ahead : (k : Book) (w h v g : ℕ) → w < 256 → h < 256 → v < 256 → g < 256
+pub rank-ahead : (k : Book) (w h v g : ℕ) → w < mostPositions → h < mostPositions → v < mostPositions → g < mostPositions
     → rank k w h ≤ rank k v g → ahead k v g w h ≡ false
 rank-ahead k w h v g wl hl vl gl l = refuted _ (λ e. no-way (ahead-true k v g w h e))
   where

@@ -10,6 +10,7 @@ use lib.Dec.{ltb}
 use borrow.Author.Tests.{lt-ltb, ltb-true}
 use Rattle.rules.proofs.Tests.{both, refuted}
 use Rattle.rules.proofs.PairOrder.{ahead-kept, ahead-neither, ahead-self, not-before, rank, rank-ahead, true-ahead}
+use Rattle.rules.specs.Limits.{mostPositions}
 use Rattle.rules.specs.Pairs.{Book, ahead, aheadOf, allowed, along, choice, look, through}
 use Rattle.rules.specs.declared.Choice.{Choice}
 use Rattle.rules.specs.declared.Choice.the-variants.{Pair, NoPair}
@@ -181,8 +182,8 @@ module _ (k : Book) (left : ℕ → ℕ) where
           let same = ahead-neither k v g w h (first v g (f .0 .0) (f .0 .1) (f .1)) (f .2 w h (lw, lh) a) in
           rw (same .0, same .1)
 
--- With rows below 256: an allowed pair of the lowest rank is the one that is found.
-pub choice-ranked : (k : Book) (left : ℕ → ℕ) → k .rows ≤ 256
+-- An account of at most 256 rows: an allowed pair of the lowest rank is the one that is found.
+pub choice-ranked : (k : Book) (left : ℕ → ℕ) → k .rows ≤ mostPositions
     → (w h : ℕ) → w < k .rows → h < k .rows → allowed k left w h ≡ true
     → ((v g : ℕ) → v < k .rows → g < k .rows → allowed k left v g ≡ true → rank k w h ≤ rank k v g)
     → choice k left ≡ Pair w h

@@ -9,8 +9,8 @@ use native.Mathlib.Omega.{arith}
 use borrow.Author.Tests.{eq-eqb, eqb-false, eqb-true, le-ltb, ltb-false, ne-eqb, not-false}
 use lib.Dec.{eqb, ltb}
 use lib.ListN.{length}
-use Rattle.rules.specs.File.{distance, layout, positionCount, seriesCount, span, trailerSpare}
-use Rattle.rules.specs.Limits.{Placed, TrailerWithin}
+use Rattle.rules.specs.File.{distance, layout, positionCount, positionWidth, seriesCount, seriesWidth, span, trailerSpare, trailerWidth}
+use Rattle.rules.specs.Limits.{Placed, TrailerWithin, mostBytes, mostPositions, mostSeries}
 use Rattle.rules.specs.Refusals.{nonzero, outside, trailerChecks, trailerFault}
 use Rattle.rules.specs.declared.Fault.the-variants.{Clean}
 use Rattle.rules.specs.declared.Layout.{Layout}
@@ -22,9 +22,9 @@ module _ (b : List ℕ) where
   unfolding trailerFault
   trailer-within e =
       let passes = all-pass (trailerChecks b) e in
-      let size = inside 12 65_536 (length b) (passes .0) in
-      let counts = none-of-three (outside 1 32 (seriesCount b)) (ltb 256 (positionCount b)) (nonzero (trailerSpare b)) (passes .1 .0) in
-      let series = inside 1 32 (seriesCount b) (counts .0) in
+      let size = inside trailerWidth mostBytes (length b) (passes .0) in
+      let counts = none-of-three (outside 1 mostSeries (seriesCount b)) (ltb mostPositions (positionCount b)) (nonzero (trailerSpare b)) (passes .1 .0) in
+      let series = inside 1 mostSeries (seriesCount b) (counts .0) in
       let some = eqb-false (positionCount b) 0 (passes .1 .1 .0) in
       let far = neither (not (eqb (distance b) (span (seriesCount b) (positionCount b)))) (ltb (length b) (distance b)) (passes .1 .1 .1 .0) in
       record {
@@ -33,7 +33,7 @@ module _ (b : List ℕ) where
         series-least = series .0;
         series-most = series .1;
         positions-least = omega arith;
-        positions-most = ltb-false 256 (positionCount b) (counts .1);
+        positions-most = ltb-false mostPositions (positionCount b) (counts .1);
         distance-is = eqb-true (distance b) (span (seriesCount b) (positionCount b)) (not-false (eqb (distance b) (span (seriesCount b) (positionCount b))) (far .0));
         distance-most = ltb-false (length b) (distance b) (far .1);
         spare-zero = is-zero (trailerSpare b) (counts .2);
@@ -43,11 +43,11 @@ module _ (b : List ℕ) where
   unfolding trailerFault
   trailer-clean h =
       all-clean (trailerChecks b) (
-        (in-range 12 65_536 (length b) (h .size-least) (h .size-most)),
+        (in-range trailerWidth mostBytes (length b) (h .size-least) (h .size-most)),
         (
-          (three-fail (outside 1 32 (seriesCount b)) (ltb 256 (positionCount b)) (nonzero (trailerSpare b))
-              (in-range 1 32 (seriesCount b) (h .series-least) (h .series-most))
-              (le-ltb 256 (positionCount b) (h .positions-most))
+          (three-fail (outside 1 mostSeries (seriesCount b)) (ltb mostPositions (positionCount b)) (nonzero (trailerSpare b))
+              (in-range 1 mostSeries (seriesCount b) (h .series-least) (h .series-most))
+              (le-ltb mostPositions (positionCount b) (h .positions-most))
               (zero-is (trailerSpare b) (h .spare-zero))),
           (
             (ne-eqb (positionCount b) 0 (λ z. let some = h .positions-least in omega arith)),
@@ -66,7 +66,7 @@ module _ (b : List ℕ) where
   placed h =
       let s : ℕ = seriesCount b in
       let p : ℕ = positionCount b in
-      let d : distance b ≡ 12 + 24 * s + 32 * p = h .distance-is in
+      let d : distance b ≡ span s p = h .distance-is in
       let m : distance b ≤ length b = h .distance-most in
       record {
         size-most = h .size-most;
@@ -80,8 +80,8 @@ module _ (b : List ℕ) where
   -- What `Placed` grants who reads a row: small counts and a small file, series rows that end before the position rows,
   -- and position rows that end before the trailer.
   pub placed-rows : (l : Layout) → Placed b l
-      → (length b ≤ 65_536) × (l .series ≤ 32) × (l .positions ≤ 256)
-      × ((i : ℕ) → i < l .series → l .seriesStart + 24 * i + 24 ≤ l .positionsStart)
-      × ((i : ℕ) → i < l .positions → l .positionsStart + 32 * i + 32 + 12 ≤ length b)
+      → (length b ≤ mostBytes) × (l .series ≤ mostSeries) × (l .positions ≤ mostPositions)
+      × ((i : ℕ) → i < l .series → l .seriesStart + seriesWidth * i + seriesWidth ≤ l .positionsStart)
+      × ((i : ℕ) → i < l .positions → l .positionsStart + positionWidth * i + positionWidth + trailerWidth ≤ length b)
   placed-rows l p =
       (p .size-most, p .series-most, p .positions-most, (λ i h. omega (arith, p .positions-start-is)), (λ i h. omega (arith, p .room)))

@@ -35,10 +35,20 @@ u24At b i = u8At b i + 256 * u8At b (i + 1) + 65_536 * u8At b (i + 2)
 abbrev pub u32At : List ℕ → ℕ → ℕ
 u32At b i = u8At b i + 256 * u8At b (i + 1) + 65_536 * u8At b (i + 2) + 16_777_216 * u8At b (i + 3)
 
+-- "Trailer, 12 bytes", "Series row, 24 bytes", "Position row, 32 bytes"
+abbrev pub trailerWidth : ℕ
+trailerWidth = 12
+
+abbrev pub seriesWidth : ℕ
+seriesWidth = 24
+
+abbrev pub positionWidth : ℕ
+positionWidth = 32
+
 -- "Trailer, 12 bytes: series count s, u16 .. position count p, u16 .. distance, u32, from the file's end back to the
 -- first series row .. four zero bytes." The trailer stands "at the very end".
 abbrev pub seriesCount : List ℕ → ℕ
-seriesCount b = u16At b (length b - 12)
+seriesCount b = u16At b (length b - trailerWidth)
 
 abbrev pub positionCount : List ℕ → ℕ
 positionCount b = u16At b (length b - 10)
@@ -49,13 +59,9 @@ distance b = u32At b (length b - 8)
 abbrev pub trailerSpare : List ℕ → ℕ
 trailerSpare b = u32At b (length b - 4)
 
--- "Position row, 32 bytes"
-abbrev pub positionWidth : ℕ
-positionWidth = 32
-
 -- "equal to 12 + 24 × s + 32 × p"
 abbrev pub span : ℕ → ℕ → ℕ
-span s p = 12 + 24 * s + positionWidth * p
+span s p = trailerWidth + seriesWidth * s + positionWidth * p
 
 -- Where the tables stand, by the trailer. The position rows follow the series rows.
 unfoldable pub layout : List ℕ → Layout
@@ -64,7 +70,7 @@ layout b =
       series = seriesCount b;
       positions = positionCount b;
       seriesStart = length b - distance b;
-      positionsStart = length b - distance b + 24 * seriesCount b;
+      positionsStart = length b - distance b + seriesWidth * seriesCount b;
       width = positionWidth;
     }
 
@@ -83,7 +89,7 @@ seriesRowFrom b at =
 
 -- Series row i of a file with the layout l.
 unfoldable pub seriesRow : List ℕ → Layout → ℕ → SeriesRow
-seriesRow b l i = seriesRowFrom b (l .seriesStart + 24 * i)
+seriesRow b l i = seriesRowFrom b (l .seriesStart + seriesWidth * i)
 
 -- "Position row, 32 bytes: series u16 .. side u8 .. barrier kind u8; flags u8; three zero bytes; then u32 each: Q ..
 -- PE .. PB; barrier price; REB .. unsettled premium".

@@ -4,10 +4,21 @@ use mathlib.Core.List.{List}
 use mathlib.Core.Logic.{_⊎_}
 use mathlib.Core.Path.{_≡_}
 use lib.ListN.{length}
-use Rattle.rules.specs.File.{distance, layout, positionCount, positionRow, positionWidth, seriesCount, seriesRow, span, trailerSpare}
+use Rattle.rules.specs.File.{distance, layout, positionCount, positionRow, positionWidth, seriesCount, seriesRow, seriesWidth, span, trailerSpare, trailerWidth}
 use Rattle.rules.specs.declared.Layout.{Layout}
 use Rattle.rules.specs.declared.PositionRow.{PositionRow}
 use Rattle.rules.specs.declared.SeriesRow.{SeriesRow}
+
+-- "At most 65,536 bytes"; "series count s, u16, 1 to 32; position count p, u16, 1 to 256": the most bytes, series and
+-- positions of a file, by the names that the tests and the contracts use.
+abbrev pub mostBytes : ℕ
+mostBytes = 65_536
+
+abbrev pub mostSeries : ℕ
+mostSeries = 32
+
+abbrev pub mostPositions : ℕ
+mostPositions = 256
 
 -- "PV u32, 1 to 10,000,000; fa u32, 1,000,000 to 10,000,000; fb u32, 0 to fa; f3 u32, 0 to 1,000,000; M u32, 1 to
 -- 1,000; type u8, 0 call, 1 put; three zero bytes"
@@ -59,13 +70,13 @@ pub record PositionWithin (s : ℕ) (k : SeriesRow) (r : PositionRow) : Type 0 w
 -- The trailer.
 pub record TrailerWithin (b : List ℕ) : Type 0 where
   -- "At most 65,536 bytes", and the trailer's own 12
-  pub size-least : 12 ≤ length b
-  pub size-most : length b ≤ 65_536
+  pub size-least : trailerWidth ≤ length b
+  pub size-most : length b ≤ mostBytes
   -- "series count s, u16, 1 to 32; position count p, u16, 1 to 256"
   pub series-least : 1 ≤ seriesCount b
-  pub series-most : seriesCount b ≤ 32
+  pub series-most : seriesCount b ≤ mostSeries
   pub positions-least : 1 ≤ positionCount b
-  pub positions-most : positionCount b ≤ 256
+  pub positions-most : positionCount b ≤ mostPositions
   -- "distance, u32, from the file's end back to the first series row, equal to 12 + 24 × s + 32 × p; four zero bytes"
   pub distance-is : distance b ≡ span (seriesCount b) (positionCount b)
   pub distance-most : distance b ≤ length b
@@ -77,19 +88,11 @@ pub record FileWithin (b : List ℕ) : Type 0 where
   pub series-rows : (i : ℕ) → i < seriesCount b → SeriesWithin (seriesRow b (layout b) i)
   pub position-rows : (i : ℕ) → i < positionCount b → PositionWithin (seriesCount b) (seriesRow b (layout b) (positionRow b (layout b) i .series)) (positionRow b (layout b) i)
 
--- "series count s, u16, 1 to 32; position count p, u16, 1 to 256": the most series and rows there are, by the names that
--- the code and its contracts use.
-abbrev pub mostSeries : ℕ
-mostSeries = 32
-
-abbrev pub mostPositions : ℕ
-mostPositions = 256
-
 -- The rows of a layout stand within the file, before its trailer. What every reader of a row requires.
 pub record Placed (b : List ℕ) (l : Layout) : Type 0 where
-  pub size-most : length b ≤ 65_536
+  pub size-most : length b ≤ mostBytes
   pub series-most : l .series ≤ mostSeries
   pub positions-most : l .positions ≤ mostPositions
   pub width-is : l .width ≡ positionWidth
-  pub positions-start-is : l .positionsStart ≡ l .seriesStart + 24 * l .series
-  pub room : l .positionsStart + positionWidth * l .positions + 12 ≤ length b
+  pub positions-start-is : l .positionsStart ≡ l .seriesStart + seriesWidth * l .series
+  pub room : l .positionsStart + positionWidth * l .positions + trailerWidth ≤ length b

@@ -5,6 +5,7 @@ use mathlib.Core.List.{List, [], _∷_, _++_}
 use lib.Dec.{eqb, ltb}
 use lib.ListN.{length, drop}
 use Rattle.rules.specs.File.{Account, accountOf, seriesOfRow}
+use Rattle.rules.specs.Limits.{mostPositions}
 use Rattle.rules.specs.OnePosition.{amountOf, premiumOf, unitMargin}
 use Rattle.rules.specs.Pairs.{Made, contractsAfter, pairsAfter}
 use Rattle.rules.specs.Refusals.{fileRead}
@@ -87,6 +88,10 @@ linesAfter a n = pairLines a (pairsAfter a n) ++ leftLines a (contractsAfter a n
 -- them no pair is allowed (`Demand3.unmade`). These are the lines of an account.
 unfoldable pub lines : Account → List Line
 lines a = linesAfter a (a .positions)
+
+-- "The line count is at most p" (`LineLaws.line-count`): the most lines of an account.
+abbrev pub mostLines : ℕ
+mostLines = mostPositions
 
 -- A line's amount: a pair's is its fifth number, a left row's its fourth.
 abbrev pub lineAmount : Line → ℕ

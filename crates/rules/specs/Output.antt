@@ -6,8 +6,7 @@ use mathlib.Core.Bool.{cond}
 use mathlib.Core.List.{List, [], _∷_, _++_}
 use lib.Dec.{eqb, ltb}
 use Rattle.rules.specs.File.{accountOf}
-use Rattle.rules.specs.Limits.{mostPositions}
-use Rattle.rules.specs.Lines.{linesGiven, marginAnswer, premiums}
+use Rattle.rules.specs.Lines.{linesGiven, marginAnswer, mostLines, premiums}
 use Rattle.rules.specs.Refusals.{fileRead, number}
 use Rattle.rules.specs.declared.FileRead.{FileRead}
 use Rattle.rules.specs.declared.FileRead.the-variants.{Accepted, Refused}
@@ -20,9 +19,13 @@ unfoldable pub decimalIn : ℕ → ℕ → List ℕ
 decimalIn zero n = []
 decimalIn (suc places) n = cond (ltb n 10) ((48 + n) ∷ []) (decimalIn places (n / 10) ++ ((48 + n % 10) ∷ []))
 
--- A space and the number; 20 digits are enough for a number of 64 bits.
+-- 20 digits are enough for a number of 64 bits.
+abbrev pub mostDigits : ℕ
+mostDigits = 20
+
+-- A space and the number.
 abbrev pub numberText : ℕ → List ℕ
-numberText n = 32 ∷ decimalIn 20 n
+numberText n = 32 ∷ decimalIn mostDigits n
 
 -- The words: pair, left, premium, total, refused.
 abbrev pub pairWord : List ℕ
@@ -78,9 +81,9 @@ premiumsFor b (Accepted l) = premiums (accountOf b l)
 
 -- The output for an answer.
 abbrev pub answerText : List ℕ → MarginAnswer → List ℕ
-answerText b (Total n sum) = linesText (linesGiven b mostPositions) ++ totalsText (premiumsFor b (fileRead b)) sum
+answerText b (Total n sum) = linesText (linesGiven b mostLines) ++ totalsText (premiumsFor b (fileRead b)) sum
 answerText b (NoTotal w row) = refusedText (number w) row
 
--- The output for a file. A list of as many entries as there are rows at most is never too short.
+-- The output for a file. A list of as many entries as there are lines at most is never too short.
 unfoldable pub marginText : List ℕ → List ℕ
-marginText b = answerText b (marginAnswer b mostPositions)
+marginText b = answerText b (marginAnswer b mostLines)

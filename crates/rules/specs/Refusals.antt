@@ -5,7 +5,8 @@ use mathlib.Core.Bool.{Bool, true, false, not, _&&_, _||_}
 use mathlib.Core.List.{List, [], _∷_}
 use lib.Dec.{eqb, leb, ltb}
 use lib.ListN.{length}
-use Rattle.rules.specs.File.{Account, accountOf, distance, flagsOf, layout, positionCount, positionOf, positionRow, seriesCount, seriesRow, span, trailerSpare}
+use Rattle.rules.specs.File.{Account, accountOf, distance, flagsOf, layout, positionCount, positionOf, positionRow, seriesCount, seriesRow, span, trailerSpare, trailerWidth}
+use Rattle.rules.specs.Limits.{mostBytes, mostPositions, mostSeries}
 use Rattle.rules.specs.declared.Fault.{Fault}
 use Rattle.rules.specs.declared.Fault.the-variants.{Clean, Found}
 use Rattle.rules.specs.declared.FileRead.{FileRead}
@@ -46,11 +47,11 @@ nonzero x = not (eqb x 0)
 
 -- 1: "file below 12 or above 65,536 bytes"
 abbrev pub wrongSize : List ℕ → Bool
-wrongSize b = outside 12 65_536 (length b)
+wrongSize b = outside trailerWidth mostBytes (length b)
 
 -- 2: "s not 1 to 32, p above 256, or one of the last four bytes not zero"
 abbrev pub wrongTrailer : List ℕ → Bool
-wrongTrailer b = outside 1 32 (seriesCount b) || ltb 256 (positionCount b) || nonzero (trailerSpare b)
+wrongTrailer b = outside 1 mostSeries (seriesCount b) || ltb mostPositions (positionCount b) || nonzero (trailerSpare b)
 
 -- 3: "p is 0"
 abbrev pub noPositions : List ℕ → Bool

@@ -1,5 +1,29 @@
-// The types of document 01. This crate has no functions: its specs/ are the definitions, its proofs/ the theorems
-// about them.
+// The types of document 01, and its sizes and limits. This crate has no functions: its specs/ are the definitions, its
+// proofs/ the theorems about them.
+
+// Sizes and limits as code has them. Contracts have the same by the same names (`trailerWidth` and so on, in specs/File.antt,
+// Limits.antt and Lines.antt); where the two differ a proof fails.
+
+// The bytes of the trailer.
+pub const TRAILER_WIDTH: usize = 12;
+
+// The bytes of a series row.
+pub const SERIES_WIDTH: usize = 24;
+
+// The bytes of a position row.
+pub const POSITION_WIDTH: usize = 32;
+
+// The most bytes of a file.
+pub const MOST_BYTES: usize = 65_536;
+
+// The most series of a file, s.
+pub const MOST_SERIES: usize = 32;
+
+// The most positions of a file, p.
+pub const MOST_POSITIONS: usize = 256;
+
+// The most lines of an account: "The line count is at most p".
+pub const MOST_LINES: usize = MOST_POSITIONS;
 
 // A series' type, call or put. (Document 01's "type".)
 pub enum OptionType {

@@ -9,17 +9,17 @@ use Rattle.lent.proofs.Walk.{_≡_, refl, ℕ, _<_, _^_, [], _∷_, List, lengt
 use mir.Syntax.{Place, Opd as Operand, Body, seq, call}
 use types.Run.{Opds}
 use denote.Enum.Laws as EL
-use Rattle.lines.specs.LineNumbers.{lineCount}
+use Rattle.lines.specs.LineNumbers.{lineCount, mostNumbers}
 use Rattle.lines_and_total.specs.Settled.{Settled}
 use Rattle.rules.specs.declared.MarginAnswer.{MarginAnswer}
 use Rattle.serpentgleam.specs.MarginNumbers.{marginNumbers}
-use Rattle.serpentgleam.specs.declared.Result.{Result}
+use Rattle.serpentgleam.specs.declared.Margin.{Margin}
 use Rattle.lent.proofs.Calling.{calls-plain, returned}
 use Rattle.lent.proofs.Lending.{lends-row, row-back}
 use Rattle.lent.proofs.Zeros.{array, array-room, array-slice}
 use Rattle.rules.proofs.MarginAnswer as E
 use Rattle.rules.proofs.MarginAnswer.Laws as E′
-use Rattle.serpentgleam.proofs.Result as N
+use Rattle.serpentgleam.proofs.Margin as N
 use Rattle.lines_and_total.proofs.settle as settle
 use Rattle.lines_and_total.proofs.settle.Symbol.{name as #lines-and-total·settle}
 use Rattle.lines_and_total.proofs.line_count as line-count
@@ -58,11 +58,11 @@ module _ {M : Type 1} (𝓤 : URA M) (H : Heap 𝓤) (A : Atoms 𝓤) (W : Given
     calls-count t fm known = calls-plain t fm (LineCount 𝓤 H A mem run) known to-count goes-count usize (lasts line-count.ended tt (r, tt)) (λ (n : ℕ). n ≡ lineCount r) (λ _. id⊢ 𝓤 _)
 
     pub calls-numbers : K → FmC 𝓤 H (W .laws) C → Triple 𝓤 (C #serpentgleam·numbers-of) (NumbersOf 𝓤 H A mem run) → Opds K W (raw (NumbersOf 𝓤 H A mem run .pre to-numbers) ∷ Γ) En xs (w ∷ [])
-        → ((v : Val) (m : Result) → m ≡ marginNumbers r → Is N.the-row m (v ∷ []) → Seq K W Γ (lands C Λ En d v rest q)) → Seq K W Γ (runs C Λ En (seq (call #serpentgleam·numbers-of xs d) rest) q)
-    calls-numbers t fm known = calls-plain t fm (NumbersOf 𝓤 H A mem run) known to-numbers goes-numbers N.the-row (lasts numbers-of.ended tt (r, tt)) (λ (m : Result). m ≡ marginNumbers r) (λ _. id⊢ 𝓤 _)
+        → ((v : Val) (m : Margin) → m ≡ marginNumbers r → Is N.the-row m (v ∷ []) → Seq K W Γ (lands C Λ En d v rest q)) → Seq K W Γ (runs C Λ En (seq (call #serpentgleam·numbers-of xs d) rest) q)
+    calls-numbers t fm known = calls-plain t fm (NumbersOf 𝓤 H A mem run) known to-numbers goes-numbers N.the-row (lasts numbers-of.ended tt (r, tt)) (λ (m : Margin). m ≡ marginNumbers r) (λ _. id⊢ 𝓤 _)
 
 -- `settle` of the file f, for a list of `room` entries, with the numbers in the block l.
-module _ {M : Type 1} (𝓤 : URA M) (H : Heap 𝓤) (A : Atoms 𝓤) (W : Given 𝓤 H A) (mem : Memory → SProp 𝓤) (run : Routine → Fun 𝓤) (κ : Lft) (p : Share) (f : RefT (List ℕ)) (room : ℕ) (room-fits : room < 2 ^ 64) (l : ℕ) (numbers : List ℕ) (long : length numbers ≡ 1280) where
+module _ {M : Type 1} (𝓤 : URA M) (H : Heap 𝓤) (A : Atoms 𝓤) (W : Given 𝓤 H A) (mem : Memory → SProp 𝓤) (run : Routine → Fun 𝓤) (κ : Lft) (p : Share) (f : RefT (List ℕ)) (room : ℕ) (room-fits : room < 2 ^ 64) (l : ℕ) (numbers : List ℕ) (long : length numbers ≡ mostNumbers) where
   abbrev s : Val
   s = sliceVal (f .ptr) (length (f .now))
 

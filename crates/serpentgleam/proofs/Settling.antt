@@ -5,9 +5,10 @@ use mathlib.Core.List.{List, _++_}
 use mathlib.Core.Path.{_≡_, sym, ap, _∙_}
 use native.Mathlib.Omega.{arith}
 use lib.ListN.{drop, length}
-use Rattle.lent.proofs.EntryLaws.{lines-count, written-first}
+use Rattle.lent.proofs.EntryLaws.{written-first}
 use Rattle.lent.specs.Entries.{entriesWritten}
-use Rattle.lines.specs.LineNumbers.{lineCount, linesFrom}
+use Rattle.lines.proofs.LinesHeld.{lines-count}
+use Rattle.lines.specs.LineNumbers.{lineCount, linesFrom, numbersPerLine}
 use Rattle.lines_and_total.specs.Settled.{Settled}
 use Rattle.rules.specs.Lines.{linesGiven, listAfter}
 use Rattle.rules.specs.declared.Line.{Line}
@@ -15,7 +16,7 @@ use Rattle.rules.specs.declared.MarginAnswer.{MarginAnswer}
 
 module _ (b : List ℕ) (out : List Line) (numbers : List ℕ) (r : MarginAnswer) (s : Settled b (length out) numbers r) (n : ℕ) (e : n ≡ lineCount r) where
   -- The lines fit into the list and stand in the numbers.
-  pub fits : (0 ≤ n) × (n ≤ length out) × (5 * n ≤ length numbers)
+  pub fits : (0 ≤ n) × (n ≤ length out) × (numbersPerLine * n ≤ length numbers)
   fits = (omega arith, omega (arith, e, s .count-most), omega (arith, e, s .count-small, s .numbers-length))
 
   count-is : lineCount r ≡ length (linesGiven b (length out))

@@ -1,6 +1,7 @@
 // The operations offered outside, as a C program calls them. `rt staticlib serpentgleam` writes the archive that a client
 // links; the header is include/serpentgleam.h.
 use lent::write_entries;
+use lines::MOST_NUMBERS;
 use lines_and_total::line_count;
 use lines_and_total::settle;
 use position::amount::amount_for_row;
@@ -17,7 +18,7 @@ ghost use Rattle.serpentgleam.specs.MarginNumbers.{marginNumbers};
 // A file's margin as numbers, the header's `serpentgleam_result`: 0, 0, the line count and the total in centavos; or the
 // refusal's number, its row, 0 and 0.
 #[repr(C)]
-pub struct Result {
+pub struct Margin {
     pub refusal: u64,
     pub row: u64,
     pub lines: u64,
@@ -25,17 +26,17 @@ pub struct Result {
 }
 
 // The numbers of an answer.
-fn numbers_of(answer: MarginAnswer) -> Result
+fn numbers_of(answer: MarginAnswer) -> Margin
     ensures { λ r. ⌜ r ≡ marginNumbers answer ⌝ }
 {
     match answer {
-        MarginAnswer::Total(n, total) => Result {
+        MarginAnswer::Total(n, total) => Margin {
             refusal: 0,
             row: 0,
             lines: n as u64,
             total: total,
         },
-        MarginAnswer::NoTotal(why, row) => Result {
+        MarginAnswer::NoTotal(why, row) => Margin {
             refusal: refusal_number(why) as u64,
             row: row as u64,
             lines: 0,
@@ -46,11 +47,11 @@ fn numbers_of(answer: MarginAnswer) -> Result
 
 // A file's margin, and its lines in the caller's list.
 #[no_mangle]
-pub extern "C" fn serpentgleam_margin(file: &[u8], lines: &mut [Line]) -> Result
+pub extern "C" fn serpentgleam_margin(file: &[u8], lines: &mut [Line]) -> Margin
     ensures numbers { λ r. ⌜ r ≡ marginNumbers (marginAnswer (now (file .entry)) (length (now (lines .entry)))) ⌝ }
     ensures list { λ _. ⌜ now (lines .exit) ≡ listAfter (now (file .entry)) (now (lines .entry)) ⌝ }
 {
-    let mut numbers = [0u64; 1280];
+    let mut numbers = [0u64; MOST_NUMBERS];
     let answer = settle(file, lines.len(), &mut numbers);
     let n = line_count(answer);
     write_entries(lines, 0, n, &numbers);

@@ -10,9 +10,10 @@ use lib.Dec.{leb}
 use lib.ListN.{length}
 use borrow.Author.Tests.{le-ltb, leb-false, leb-true, lt-ltb}
 use Rattle.io.specs.Digits.{Fewest, digits, glyph}
-use Rattle.rules.specs.Output.{decimalIn, numberText}
+use Rattle.rules.specs.Output.{decimalIn, mostDigits, numberText}
 use Rattle.statement.proofs.PutLaws.{put-then}
 use Rattle.statement.specs.Puts.{Put}
+use Rattle.statement.specs.Sizes.{mostNumberText}
 
 glyph-is : (d : ℕ) → d < 10 → glyph d ≡ 48 + d
 glyph-is d l = rw (lt-ltb d 10 l)
@@ -38,16 +39,16 @@ decimal-is (suc (suc k)) (suc places) n l f =
     (ap₂ (λ (x : List ℕ) (y : ℕ). x ++ (y ∷ [])) (decimal-is (suc k) places (n / 10) (omega (arith, l)) rest) (glyph-is (n % 10) (omega arith)))
 
 -- A number of 64 bits has at most 20 digits.
-pub places-most : (n k : ℕ) → n < 18_446_744_073_709_551_616 → Fewest 10 1 n k → k ≤ 20
-places-most n k most f = go (leb k 20) refl
+pub places-most : (n k : ℕ) → n < 18_446_744_073_709_551_616 → Fewest 10 1 n k → k ≤ mostDigits
+places-most n k most f = go (leb k mostDigits) refl
   where
-    wider : 20 ≤ k - 1 → 10 ^ 20 ≤ 10 ^ (k - 1)
+    wider : mostDigits ≤ k - 1 → 10 ^ mostDigits ≤ 10 ^ (k - 1)
     wider l = pow-le-pow-right (omega arith) l
 
-    go : (t : Bool) → leb k 20 ≡ t → k ≤ 20
-    go true e = leb-true k 20 e
+    go : (t : Bool) → leb k mostDigits ≡ t → k ≤ mostDigits
+    go true e = leb-true k mostDigits e
     go false e =
-        let more : 20 < k = leb-false k 20 e in
+        let more : mostDigits < k = leb-false k mostDigits e in
         let least : 10 ^ (k - 1) ≤ n = f .2 (omega (arith, more)) in
         let large : 100_000_000_000_000_000_000 ≤ 10 ^ (k - 1) = wider (omega (arith, more)) in
         absurd (omega (arith, most, least, large))
@@ -55,8 +56,8 @@ places-most n k most f = go (leb k 20) refl
 -- A space and the digits put after it.
 pub number-put : {a b c : List ℕ} {at start end : ℕ} (n k : ℕ) (word : List ℕ) → n < 18_446_744_073_709_551_616
     → Fewest 10 1 n k → word ≡ digits 10 k n → k ≡ length word → Put a b at start (32 ∷ []) → Put b c start end word
-    → Put a c at end (numberText n) × (end ≤ at + 21)
+    → Put a c at end (numberText n) × (end ≤ at + mostNumberText)
 number-put {a} {b} {c} {at} {start} {end} n k word most f e len x y =
     let few = places-most n k most f in
-    let same : word ≡ decimalIn 20 n = e ∙ decimal-is k 20 n few f in
+    let same : word ≡ decimalIn mostDigits n = e ∙ decimal-is k mostDigits n few f in
     (subst (λ (w : List ℕ). Put a c at end (32 ∷ w)) same (put-then (32 ∷ []) word x y), omega (arith, x .end-is, y .end-is, len, few))

@@ -1,5 +1,6 @@
 // A file's margin in words: `pair` and `left` lines, `premium` and `total`, or `refused` with number and row.
-use crate::text::put_margin;
+use crate::text::MOST_TEXT;
+use crate::text::put_margin_text;
 use libc::STDOUT_FILENO;
 ghost use lib.ListN.{length};
 ghost use mathlib.Core.Path.{_≡_};
@@ -12,8 +13,8 @@ pub mod words;
 pub fn print_margin(file: &[u8]) -> usize
     ensures { λ r. ⌜ r ≡ length (marginText (now (file .entry))) ⌝ }
 {
-    let mut text = [0u8; 24_000];
-    let n = put_margin(&mut text, file);
+    let mut text = [0u8; MOST_TEXT];
+    let n = put_margin_text(&mut text, file);
     io::write_all(STDOUT_FILENO, &text[..n]);
     n
 }

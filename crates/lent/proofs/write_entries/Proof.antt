@@ -2,7 +2,7 @@
 -- it; a turn calls `line_at`, of which all that is known is its contract, and stores to entry i in place. Assumes nothing.
 use Rattle.lent.proofs.Walk.{_≡_, refl, sym, _∙_, ap, subst, Bool, true, false, not, ℕ, _<_, _≤_, _^_, _*_, _+_, le-antisymm, le-refl, le-trans, add-one-le, add-one-dec, arith, [], _∷_, List, Holds, ltb, ltb→lt, nltb→le, length, set, URA, fullShare, Ty, named, mut, imm, w64, tyPtr, tyInt, tyUnit, tyBool, tyRef, Val, vunit, vint, vbool, vptr, SProp, ent, sep, id⊢, Lft, Share, GName, Fml, ftrue, fat, froom, fdies, flft, fobs, fauth, fbor, fobor, Memory, Routine, Heap, Out, Env, Calls, Loops, Wp, WpFn, Tables, afterSeq, afterBlock, atReturn, Atoms, sem, Fun, givenOf, tables, Given, Item, Sq, runs, anyQ, atRet, ‵, raw, _⊛_, ⋆, _$_, _∵_, !, qed, by, move, keep, use1, use2, split, join, rewrite, fsplit, fjoin, feqI, suffices, frame, done, drop, look, init, store, forget, stop, hop, fld, from, load, lit, unit-lit, of-opd, bin, and-then, no-more, assigns, assigns-last, first, blocks, stays, leaves-loop, exec, loops, again, Below, returns, enter, alloc1, alloc0, params1, pass1, pass0, free1, free0, whole, sub, look-in, fmOf, WpFn-mono, owns, pureI, Is, pointee, uint-makes, uint-vals, uint-tells, usize, u64, RefT, sliceTy, sliceVal, MutSlice, ShrSlice, Room, heres, codedHoleys, at-slice, slice-vals, mut-slice-tells, shr-slice-tells, shr-slice-copy, Held, row, place-is, opens-slice, closes-slice, owned, nothing, onEntry, Meets, tripleOf, Contract, Triple, calls-at, lasts, entered, cited, says, needs, Stays, stay-none, stay-slice, stay-none-slice, walkOf, goes-none, goes-slice, goes-none-slice, Walks, ends-at, walked, walk-meets, yes, plain, afterTurn, tablesOf}
 use Rattle.rules.specs.declared.Line.{Line}
-use Rattle.lines.specs.LineNumbers.{lineFrom}
+use Rattle.lines.specs.LineNumbers.{lineFrom, numbersPerLine}
 use Rattle.lent.specs.Entries.{entriesWritten}
 use Rattle.lent.proofs.Counting.{Nearer, Nearer-wf}
 use Rattle.lent.proofs.Calling.{returned}
@@ -31,7 +31,7 @@ module _ {M : Type 1} (𝓤 : URA M) (H : Heap 𝓤) (A : Atoms 𝓤) (mem : Mem
   LineAt = tripleOf 𝓤 H A line-at.signature (line-at.spec 𝓤 H A mem run)
 
 module _ {M : Type 1} (𝓤 : URA M) (H : Heap 𝓤) (A : Atoms 𝓤) (W : Given 𝓤 H A) (mem : Memory → SProp 𝓤) (run : Routine → Fun 𝓤) (κ κ′ : Lft) (q q′ : Share) (b o : ℕ) (γ : GName) (ys : List Line) (m n : ℕ) (x′ : RefT (List ℕ))
-    (m-fits : m < 2 ^ 64) (n-fits : n < 2 ^ 64) (room : Room T.the-row (length ys)) (room′ : Room u64 (length (x′ .now))) (asked : (m ≤ n) × (n ≤ length ys) × (5 * n ≤ length (x′ .now))) where
+    (m-fits : m < 2 ^ 64) (n-fits : n < 2 ^ 64) (room : Room T.the-row (length ys)) (room′ : Room u64 (length (x′ .now))) (asked : (m ≤ n) × (n ≤ length ys) × (numbersPerLine * n ≤ length (x′ .now))) where
   abbrev numbers : List ℕ
   numbers = x′ .now
 
@@ -198,7 +198,7 @@ module _ {M : Type 1} (𝓤 : URA M) (H : Heap 𝓤) (A : Atoms 𝓤) (W : Given
   write-entries-walks : Walks 𝓤 H A write-entries.ended stayed (WpFn 𝓤 H (𝓣 .C) (𝓣 .Λ) code.function) (write-entries.clauses 𝓤 H A mem run)
   write-entries-walks = walked 𝓤 H A write-entries.ended stayed (write-entries.clauses 𝓤 H A mem run) (WpFn 𝓤 H (𝓣 .C) (𝓣 .Λ) code.function)
       (λ κs. (slice-vals, (uint-vals w64, (uint-vals w64, (slice-vals, tt))))) (λ κs. (mut-slice-tells (named 0) (κs .0) T.the-row, (uint-tells w64, (uint-tells w64, (shr-slice-tells (named 1) (κs .1 .0) u64, tt)))))
-      (λ κs qs bounds a g are. needs 𝓤 ((a .1 .0 ≤ a .1 .1 .0) × (a .1 .1 .0 ≤ length (a .0 .now)) × (5 * a .1 .1 .0 ≤ length (a .1 .1 .1 .0 .now))) _ (λ asked.
+      (λ κs qs bounds a g are. needs 𝓤 ((a .1 .0 ≤ a .1 .1 .0) × (a .1 .1 .0 ≤ length (a .0 .now)) × (numbersPerLine * a .1 .1 .0 ≤ length (a .1 .1 .1 .0 .now))) _ (λ asked.
       walk 𝓤 H A W mem run (κs .0) (κs .1 .0) (qs .0) (qs .1 .0) (a .0 .ptr .0) (a .0 .ptr .1) (a .0 .name) (a .0 .now) (a .1 .0) (a .1 .1 .0) (a .1 .1 .1 .0) (are .1 .0 .1) (are .1 .1 .0 .1) (are .0 .0 .1) (are .1 .1 .1 .0 .0 .1) asked 𝓣 known))
 
   write-entries-meets : Meets 𝓤 H A write-entries.signature (WpFn 𝓤 H (𝓣 .C) (𝓣 .Λ) code.function) (write-entries.spec 𝓤 H A mem run)

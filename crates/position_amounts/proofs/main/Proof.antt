@@ -1,19 +1,20 @@
-use Prim.Native.Nat.{ℕ, _-_, _≤_}
+use Prim.Native.Nat.{ℕ, _+_, _-_, _≤_}
 use Rattle.position_amounts.proofs.main.Statement.{statement}
 use Rattle.position_amounts.proofs.main.Tie as tie
+use Rattle.rules.specs.Limits.{mostBytes}
 use borrow.Author.Needs.{needs}
 use lib.ListN.{length, length-replicate}
 use mathlib.Core.Path.{_≡_, sym, _∙_}
 use native.Mathlib.Omega.{arith}
 
 abbrev Inv-loop : tie.InvT-loop
-Inv-loop space₀ files₀ space files = (length space ≡ 65537) × (files ≤ 1_000_000_000)
+Inv-loop space₀ files₀ space files = (length space ≡ mostBytes + 1) × (files ≤ 1_000_000_000)
 
 abbrev μ-loop : tie.MeasureT-loop
 μ-loop space₀ files₀ space files = 1_000_000_000 - files
 
 loop-holds : tie.Need-loop-holds Inv-loop μ-loop
-loop-holds c = (length-replicate {A = ℕ} 65537 0, omega arith)
+loop-holds c = (length-replicate {A = ℕ} (mostBytes + 1) 0, omega arith)
 
 slice-aggregate-report-next : tie.Need-slice-aggregate-report-next Inv-loop μ-loop
 slice-aggregate-report-next c = sym (c .before .before .loop .inv .0)

@@ -1,13 +1,14 @@
-use Prim.Native.Nat.{_-_, _≤_}
+use Prim.Native.Nat.{_+_, _-_, _≤_}
 use Rattle.position_amounts.proofs.print_amounts.Statement.{statement}
 use Rattle.position_amounts.proofs.print_amounts.Tie as tie
+use Rattle.rules.specs.Limits.{mostPositions}
 use borrow.Author.Needs.{needs}
 
 abbrev Inv-loop : tie.InvT-loop
-Inv-loop file row₀ row = row ≤ 257
+Inv-loop file row₀ row = row ≤ mostPositions + 1
 
 abbrev μ-loop : tie.MeasureT-loop
-μ-loop file row₀ row = 257 - row
+μ-loop file row₀ row = mostPositions + 1 - row
 
 loop-holds : tie.Need-loop-holds Inv-loop μ-loop
 loop-holds c = search needs

@@ -3,10 +3,11 @@
 use Rattle.lent.proofs.Walk.{_≡_, refl, _∙_, ap, ℕ, [], _∷_, List, lit<, length, URA, fullShare, named, w64, tyInt, tyArray, Val, SProp, ent, emp, via, fst∗, Lft, Share, Fml, ftrue, fat, froom, flft, Memory, Routine, Heap, Calls, Loops, WpFn, Tables, Atoms, Fun, givenOf, tables, Given, ‵, _⊛_, ⋆, _$_, _∵_, !, qed, by, move, use1, split, join, rewrite, fsplit, fjoin, suffices, frame, done, drop, look, init, stop, hop, fld, from, load, lit, of-opd, and-then, no-more, assigns, returns, enter, alloc1, alloc0, params1, pass1, pass0, free1, free0, addr, whole, sub, look-in, agg, rep, fmOf, WpFn-mono, FmC, owns, Is, uint-lawful, nothing-lawful, u8, RefT, sliceVal, MutSlice, ShrSlice, Room, slice-vals, mut-slice-tells, shr-slice-tells, finally, owned, nothing, only, onEntry, Meets, tripleOf, Triple, entered, cited, Stays, stay-none-slice, walkOf, goes-none-slice, Walks, ends-at, walked, walk-meets, gave-slice, goes-gave-slice, yes, plain, tablesOf}
 use denote.Enum.Laws as EL
 use denote.Struct.Laws as LL
+use Rattle.lines.specs.LineNumbers.{mostNumbers}
 use Rattle.rules.specs.Lines.{listAfter, marginAnswer}
 use Rattle.rules.specs.declared.Line.{Line}
 use Rattle.serpentgleam.specs.MarginNumbers.{marginNumbers}
-use Rattle.serpentgleam.specs.declared.Result.{Result}
+use Rattle.serpentgleam.specs.declared.Margin.{Margin}
 use Rattle.lent.proofs.Literal.{big-lit}
 use Rattle.lent.proofs.Locals.{fills, free-cell, lands-in, local}
 use Rattle.lent.proofs.Several.{says-both}
@@ -17,8 +18,8 @@ use Rattle.serpentgleam.proofs.Settling.{fits, list-is}
 use Rattle.rules.proofs.Line as T
 use Rattle.rules.proofs.MarginAnswer as E
 use Rattle.rules.proofs.MarginAnswer.Laws as E′
-use Rattle.serpentgleam.proofs.Result as N
-use Rattle.serpentgleam.proofs.Result.Laws as N′
+use Rattle.serpentgleam.proofs.Margin as N
+use Rattle.serpentgleam.proofs.Margin.Laws as N′
 use Rattle.lines_and_total.proofs.settle.Symbol as settle-def
 use Rattle.lines_and_total.proofs.settle.Symbol.{name as #lines-and-total·settle}
 use Rattle.lines_and_total.proofs.settle.Met as settle-thm
@@ -73,7 +74,7 @@ module _ {M : Type 1} (𝓤 : URA M) (H : Heap 𝓤) (A : Atoms 𝓤) (W : Given
   abbrev File : Fml
   File = ShrSlice (named 0) κ u8 .own f (s ∷ [])
 
-  exits : (m : Result) (w : Val) (us : List Line) → Is N.the-row m (w ∷ []) → m ≡ marginNumbers (marginAnswer file (length ys)) → us ≡ listAfter file ys → length us ≡ length ys
+  exits : (m : Margin) (w : Val) (us : List Line) → Is N.the-row m (w ∷ []) → m ≡ marginNumbers (marginAnswer file (length ys)) → us ≡ listAfter file ys → length us ≡ length ys
       → ent 𝓤 (⋆ 𝓤 H A (‵ (finally T.the-row (x .name) us) ∷ ‵ (flft κ′ q′) ∷ ‵ (flft κ q) ∷ ‵ File ∷ [])) (Post w)
   exits m w us is e e′ l =
       qed W (‵ (finally T.the-row (x .name) us) ∷ ‵ (flft κ′ q′) ∷ ‵ (flft κ q) ∷ ‵ File ∷ []) ∵
@@ -89,7 +90,7 @@ module _ {M : Type 1} (𝓤 : URA M) (H : Heap 𝓤) (A : Atoms 𝓤) (W : Given
         qed W ((‵ (flft κ q) ⊛ (‵ (flft κ′ q′) ⊛ ‵ ftrue)) ∷ ‵ (owns (ShrSlice (named 0) κ u8 ∷ MutSlice (named 1) κ′ T.the-row ∷ []) a vals) ∷ []) ∵ enter ! C Λ code.function (s ∷ s′ ∷ []) _ $
         alloc1 ! (λ l₀. alloc1 ! (λ l₁. alloc1 ! (λ l₂. alloc1 ! (λ l₃. alloc1 ! (λ l₄. alloc1 ! (λ l₅. alloc1 ! (λ l₆. alloc1 ! (λ l₇. alloc1 ! (λ l₈. alloc1 ! (λ l₉. alloc1 ! (λ l₁₀. alloc1 ! (λ l₁₁. alloc1 ! (λ l₁₂. alloc1 ! (λ l₁₃. alloc0 ! $ params1 ! $
         pass1 ! (init ! 24 refl (tt, (tt, (record { fits = room .0 }, tt)))) $ pass1 ! (init ! 22 refl (tt, (tt, (record { fits = room′ .0 }, tt)))) $ pass0 ! $
-        assigns ! (rep ! 1280 (lit ! tt)) (from ! (stop !)) (init-zeros ! 20 refl) $
+        assigns ! (rep ! mostNumbers (lit ! tt)) (from ! (stop !)) (init-zeros ! 20 refl) $
         -- [the numbers; the locals; the tokens; what file and lines own]
         move ! (29 ∷ []) $ fsplit ! $ move ! (1 ∷ []) $ fsplit ! $ move ! (31 ∷ []) $ split ! $ move ! (1 ∷ []) $ split ! $ move ! (3 ∷ 0 ∷ 6 ∷ 2 ∷ 5 ∷ []) $ move ! (5 ∷ 6 ∷ []) $ drop ! $ drop ! $
         -- [lines; its token; the numbers; file's token; file; _13 at 5, _4 at 23, _2 at 26, _0 at 30]: so before and after each call
@@ -109,7 +110,7 @@ module _ {M : Type 1} (𝓤 : URA M) (H : Heap 𝓤) (A : Atoms 𝓤) (W : Given
         lands-in ! 13 refl (nothing-lawful 𝓤 H A W .typed o _ is-o .0) $
         calls-numbers 𝓤 H A W mem run r w is-r ! fm (known .k-numbers) (and-then ! (local ! 24 refl) (no-more !)) (λ v m e′ is-m.
         lands-in ! 30 refl (LL.lawful N.the-type N′.the-laws 𝓤 H A W .typed m _ is-m .0) $
-        move ! (2 ∷ []) $ use1 W (‵ (froom (tyArray (tyInt w64) 1280) l₃ 0)) (rows-room 𝓤 H A W 1280 numbers l₃ (settled .numbers-length)) $
+        move ! (2 ∷ []) $ use1 W (‵ (froom (tyArray (tyInt w64) mostNumbers) l₃ 0)) (rows-room 𝓤 H A W mostNumbers numbers l₃ (settled .numbers-length)) $
         returns ! (look ! 30 refl) $ move ! (30 ∷ 31 ∷ []) $ free-cell ! $ move ! (28 ∷ 29 ∷ []) $ free-cell ! $ move ! (26 ∷ 27 ∷ []) $ free-cell ! $ move ! (0 ∷ 25 ∷ []) $ free1 ! $
         move ! (22 ∷ 23 ∷ []) $ free-cell ! $ move ! (20 ∷ 21 ∷ []) $ free-cell ! $ move ! (18 ∷ 19 ∷ []) $ free-cell ! $ move ! (16 ∷ 17 ∷ []) $ free-cell ! $ move ! (14 ∷ 15 ∷ []) $ free-cell ! $
         move ! (12 ∷ 13 ∷ []) $ free-cell ! $ move ! (10 ∷ 11 ∷ []) $ free-cell ! $ move ! (8 ∷ 9 ∷ []) $ free-cell ! $ move ! (6 ∷ 7 ∷ []) $ free-cell ! $ move ! (4 ∷ 5 ∷ []) $ free-cell ! $ free0 ! $

@@ -1,6 +1,8 @@
 use Rattle.account.proofs.faults.trailer_fault.Statement.{statement}
 use Rattle.account.proofs.faults.trailer_fault.Tie as tie
 use Rattle.rules.proofs.Chain.{inside, passes, stops}
+use Rattle.rules.specs.File.{trailerWidth}
+use Rattle.rules.specs.Limits.{mostBytes}
 use Rattle.rules.specs.Refusals.{trailerFault}
 use borrow.Author.Tests.{eq-eqb, ne-eqb}
 use denote.Ref.{now}
@@ -12,21 +14,21 @@ unfolding trailerFault
 returns c = stops _ _ _ _ refl (c .if1 .taken)
 
 wrong-trailer-requires : tie.Need-wrong-trailer-requires
-wrong-trailer-requires c κs = inside 12 65536 (length (now (c .before .before .args .file))) (c .if1 .left) .0
+wrong-trailer-requires c κs = inside trailerWidth mostBytes (length (now (c .before .before .args .file))) (c .if1 .left) .0
 
 returns-2 : tie.Need-returns-2
 unfolding trailerFault
 returns-2 c = passes _ _ _ _ _ refl (c .before .before .if1 .left) (stops _ _ _ _ (c .before .wrong-trailer .ensures) (c .if2 .taken))
 
 position-count-requires : tie.Need-position-count-requires
-position-count-requires c κs = inside 12 65536 (length (now (c .before .before .before .before .args .file))) (c .before .before .if1 .left) .0
+position-count-requires c κs = inside trailerWidth mostBytes (length (now (c .before .before .before .before .args .file))) (c .before .before .if1 .left) .0
 
 returns-3 : tie.Need-returns-3
 unfolding trailerFault
 returns-3 c = passes _ _ _ _ _ refl (c .before .before .before .before .if1 .left) (passes _ _ _ _ _ (c .before .before .before .wrong-trailer .ensures) (c .before .before .if2 .left) (stops _ _ _ _ refl (eq-eqb _ 0 (sym (c .before .position-count .ensures .0) ∙ c .if3 .taken))))
 
 wrong-distance-requires : tie.Need-wrong-distance-requires
-wrong-distance-requires c κs = inside 12 65536 (length (now (c .before .before .before .before .before .before .args .file))) (c .before .before .before .before .if1 .left) .0
+wrong-distance-requires c κs = inside trailerWidth mostBytes (length (now (c .before .before .before .before .before .before .args .file))) (c .before .before .before .before .if1 .left) .0
 
 returns-4 : tie.Need-returns-4
 unfolding trailerFault

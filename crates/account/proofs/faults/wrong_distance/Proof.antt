@@ -5,11 +5,20 @@ use borrow.Author.Needs.{needs}
 series-count-requires : tie.Need-series-count-requires
 series-count-requires c κs = search needs
 
+cast-s : tie.Need-cast-s
+cast-s c = search needs
+
 position-count-requires : tie.Need-position-count-requires
 position-count-requires c κs = search needs
 
+cast-p : tie.Need-cast-p
+cast-p c = search needs
+
 distance-back-requires : tie.Need-distance-back-requires
 distance-back-requires c κs = search needs
+
+cast-distance : tie.Need-cast-distance
+cast-distance c = search needs
 
 mul-result : tie.Need-mul-result
 mul-result c = search needs
@@ -23,9 +32,6 @@ mul-result-2 c = search needs
 add-result-2 : tie.Need-add-result-2
 add-result-2 c = search needs
 
-cast-result : tie.Need-cast-result
-cast-result c = search needs
-
 returns : tie.Need-returns
 returns c = rw (c .before .before .series-count .ensures .0, c .before .position-count .ensures .0, c .distance-back .ensures)
 
@@ -34,11 +40,13 @@ wrong-distance-spec =
     tie.close
     (tie.spec
     series-count-requires
+    cast-s
     position-count-requires
+    cast-p
     distance-back-requires
+    cast-distance
     mul-result
     add-result
     mul-result-2
     add-result-2
-    cast-result
     returns)

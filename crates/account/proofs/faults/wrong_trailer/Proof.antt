@@ -5,8 +5,14 @@ use borrow.Author.Needs.{needs}
 series-count-requires : tie.Need-series-count-requires
 series-count-requires c κs = search needs
 
+cast-s : tie.Need-cast-s
+cast-s c = search needs
+
 position-count-requires : tie.Need-position-count-requires
 position-count-requires c κs = search needs
+
+cast-p : tie.Need-cast-p
+cast-p c = search needs
 
 trailer-spare-requires : tie.Need-trailer-spare-requires
 trailer-spare-requires c κs = search needs
@@ -17,4 +23,4 @@ returns c = rw (c .before .before .series-count .ensures .0, c .before .position
 pub wrong-trailer-spec : {M : Type 1} → statement M
 wrong-trailer-spec =
     tie.close
-    (tie.spec series-count-requires position-count-requires trailer-spare-requires returns)
+    (tie.spec series-count-requires cast-s position-count-requires cast-p trailer-spare-requires returns)

@@ -1,4 +1,5 @@
-use Rattle.lines_and_total.proofs.RowLaws.{has-series, premium-is, read-fits}
+use Rattle.account.proofs.KnownRows.{read-series-below}
+use Rattle.lines_and_total.proofs.RowLaws.{premium-is, read-fits}
 use Rattle.lines_and_total.proofs.premium.row_premium.Statement.{statement}
 use Rattle.lines_and_total.proofs.premium.row_premium.Tie as tie
 use borrow.Author.Needs.{needs}
@@ -9,7 +10,7 @@ position-at-requires : tie.Need-position-at-requires
 position-at-requires c κs = search needs
 
 series-of-position-requires : tie.Need-series-of-position-requires
-series-of-position-requires c κs = let a = c .before .before .args in let p = c .before .before .pre in (p .0, has-series (now (a .file)) (a .l) (p .0) (a .row) (c .position-at .result) (p .1) (c .position-at .ensures))
+series-of-position-requires c κs = let a = c .before .before .args in let p = c .before .before .pre in (p .0, read-series-below (now (a .file)) (a .l) (p .0) (a .row) (p .1) (c .position-at .result) (c .position-at .ensures))
 
 held-premium-requires : tie.Need-held-premium-requires
 held-premium-requires c κs = let a = c .before .before .before .args in let p = c .before .before .before .pre in read-fits (now (a .file)) (a .l) (a .row) (c .series-of-position .result) (c .before .position-at .result) (c .before .position-at .ensures) (c .series-of-position .ensures) (p .0) (p .1)

@@ -4,7 +4,8 @@ use Rattle.rules.specs.OnePosition.{normal}
 use Rattle.rules.specs.Spreads.{spreadBetween, unitSpread}
 use Rattle.rules.specs.declared.Spread.{Spread}
 use Rattle.rules.specs.declared.Terms.{Terms}
-use Rattle.spreads.proofs.Rows.{read-series-below, spread-at}
+use Rattle.account.proofs.KnownRows.{read-series-below}
+use Rattle.spreads.proofs.Rows.{spread-at}
 use Rattle.spreads.proofs.pair.spread_unit.Statement.{statement}
 use Rattle.spreads.proofs.pair.spread_unit.Tie as tie
 use borrow.Author.Needs.{needs}

@@ -1,6 +1,6 @@
 use Rattle.statement.proofs.TextLaws.{pair-put}
-use Rattle.statement.proofs.text.put_pair.Statement.{statement}
-use Rattle.statement.proofs.text.put_pair.Tie as tie
+use Rattle.statement.proofs.text.put_pair_text.Statement.{statement}
+use Rattle.statement.proofs.text.put_pair_text.Tie as tie
 use borrow.Author.Needs.{needs}
 
 slice-aggregate-put-word : tie.Need-slice-aggregate-put-word
@@ -33,8 +33,8 @@ same-length c = search needs
 returns : tie.Need-returns
 returns c = let l = c .before .before .before .before .before .before .before .before .before .before .before .before .before .before .before .before .before .before .before .before .before .before .before .before .before .before .before .args .line in let w = c .before .before .before .before .before .before .before .before .before .before .before .before .before .before .before .before .before .before .before .before .before .before .before .put-word .ensures in let p = c .before .before .before .before .before .before .before .before .before .before .before .before .before .before .before .before .before .before .before .put-number .ensures in let q = c .before .before .before .before .before .before .before .before .before .before .before .before .before .before .before .put-number2 .ensures in let r = c .before .before .before .before .before .before .before .before .before .before .before .put-number3 .ensures in let s = c .before .before .before .before .before .before .before .put-number4 .ensures in let e = c .before .before .put-word2 .ensures in pair-put l w (p .0) (q .0) (r .0) (s .0) e (p .1) (q .1) (r .1) (s .1)
 
-pub put-pair-spec : {M : Type 1} → statement M
-put-pair-spec =
+pub put-pair-text-spec : {M : Type 1} → statement M
+put-pair-text-spec =
     tie.close
     (tie.spec
     slice-aggregate-put-word

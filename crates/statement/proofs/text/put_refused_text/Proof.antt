@@ -1,6 +1,6 @@
 use Rattle.statement.proofs.TextLaws.{refused-put}
-use Rattle.statement.proofs.text.put_refused.Statement.{statement}
-use Rattle.statement.proofs.text.put_refused.Tie as tie
+use Rattle.statement.proofs.text.put_refused_text.Statement.{statement}
+use Rattle.statement.proofs.text.put_refused_text.Tie as tie
 use borrow.Author.Needs.{needs}
 
 slice-aggregate-put-word : tie.Need-slice-aggregate-put-word
@@ -27,8 +27,8 @@ same-length c = search needs
 returns : tie.Need-returns
 returns c = let a = c .before .before .before .before .before .before .before .before .before .before .before .before .before .before .before .before .before .before .before .args in let p = c .before .before .before .before .before .before .before .before .before .before .before .put-number .ensures in let q = c .before .before .before .before .before .before .before .put-number2 .ensures in refused-put (a .number) (a .row) (c .before .before .before .before .before .before .before .before .before .before .before .before .before .before .before .put-word .ensures) (p .0) (q .0) (c .before .before .put-word2 .ensures) (p .1) (q .1)
 
-pub put-refused-spec : {M : Type 1} → statement M
-put-refused-spec =
+pub put-refused-text-spec : {M : Type 1} → statement M
+put-refused-text-spec =
     tie.close
     (tie.spec
     slice-aggregate-put-word

@@ -1,6 +1,6 @@
 use Rattle.statement.proofs.TextLaws.{totals-put}
-use Rattle.statement.proofs.text.put_totals.Statement.{statement}
-use Rattle.statement.proofs.text.put_totals.Tie as tie
+use Rattle.statement.proofs.text.put_totals_text.Statement.{statement}
+use Rattle.statement.proofs.text.put_totals_text.Tie as tie
 use borrow.Author.Needs.{needs}
 
 slice-aggregate-put-word : tie.Need-slice-aggregate-put-word
@@ -39,8 +39,8 @@ same-length c = search needs
 returns : tie.Need-returns
 returns c = let a = c .before .before .before .before .before .before .before .before .before .before .before .before .before .before .before .before .before .before .before .before .before .before .before .before .before .before .before .before .before .args in let p = c .before .before .before .before .before .before .before .before .before .before .before .before .before .before .before .before .before .before .before .before .before .put-number .ensures in let q = c .before .before .before .before .before .before .before .put-number2 .ensures in totals-put (a .premium) (a .total) (c .before .before .before .before .before .before .before .before .before .before .before .before .before .before .before .before .before .before .before .before .before .before .before .before .before .put-word .ensures) (p .0) (c .before .before .before .before .before .before .before .before .before .before .before .before .before .before .before .before .put-word2 .ensures) (c .before .before .before .before .before .before .before .before .before .before .before .put-word3 .ensures) (q .0) (c .before .before .put-word4 .ensures) (p .1) (q .1)
 
-pub put-totals-spec : {M : Type 1} → statement M
-put-totals-spec =
+pub put-totals-text-spec : {M : Type 1} → statement M
+put-totals-text-spec =
     tie.close
     (tie.spec
     slice-aggregate-put-word
