@@ -17,7 +17,7 @@ use Rattle.rules.proofs.LineLaws.{line-count, lines-are}
 use Rattle.rules.proofs.Reading.{accepted-within, within-accepted, within-read}
 use Rattle.rules.specs.File.{Account, accountOf, layout, positionCount}
 use Rattle.rules.specs.Limits.{FileWithin}
-use Rattle.rules.specs.Lines.{lines, linesFor, linesGiven, listAfter, marginAnswer, marginForList, total}
+use Rattle.rules.specs.Lines.{lines, linesFor, linesGiven, listAfter, marginAnswer, marginForList, mostLines, total}
 use Rattle.rules.specs.OnePosition.{amountAnswer, amountForRow, positionAmount, signedAnswer}
 use Rattle.rules.specs.Refusals.{accepted, fileRead, meaning, meant, number, refused}
 use Rattle.rules.specs.declared.FileRead.{FileRead}
@@ -79,6 +79,14 @@ module _ (b : List ℕ) where
       let k = accepted-read a e in
       subst (λ (x : Account). x .positions ≤ n → marginAnswer b n ≡ Total (length (lines x)) (total x)) (sym (k .1))
       (λ h. rw (answer-read n (Accepted (layout b)) (k .0), le-ltb n (layout b .positions) h))
+
+  -- A list of as many entries as an account has lines at most is never too short.
+  pub margin-most : (a : Account) → meaning b ≡ accepted a → marginAnswer b mostLines ≡ Total (length (lines a)) (total a)
+  unfolding layout
+  margin-most a e =
+      let k = accepted-within b a e in
+      let few : positionCount b ≤ mostLines = omega (arith, k .0 .trailer .positions-most) in
+      margin-accepted a e mostLines (subst (λ (x : Account). x .positions ≤ mostLines) (sym (k .1)) few)
 
   -- Demand 1 of the operation: "A file that keeps the limits of document 01 is accepted and gets its lines and total,
   -- whatever its rows hold", in a list of at least p entries.

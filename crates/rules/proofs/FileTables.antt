@@ -6,9 +6,9 @@ use mathlib.Core.Path.{_≡_}
 use lib.IntN.{negℤ, pos}
 use Rattle.rules.proofs.CheckOrder.{bytes4, trailerBytes}
 use Rattle.rules.proofs.CheckedValues.{row, series}
-use Rattle.rules.specs.File.{barrierOf, flagsOf, limiterOf, optionOf, positionRowFrom, seriesRowFrom, sideOf, span, u16At, u24At, u32At, u8At}
-use Rattle.rules.specs.Lines.{total}
-use Rattle.rules.specs.Lines.{marginAnswer}
+use Rattle.rules.specs.File.{barrierOf, flagsOf, limiterOf, optionOf, positionRowFrom, positionWidth, seriesRowFrom, seriesWidth, sideOf, span, trailerWidth, u16At, u24At, u32At, u8At}
+use Rattle.rules.specs.Limits.{mostBytes, mostPositions, mostSeries}
+use Rattle.rules.specs.Lines.{marginAnswer, total}
 use Rattle.rules.specs.OnePosition.{amountAnswer, signedAnswer}
 use Rattle.rules.specs.Output.{marginText, premiumsFor}
 use Rattle.rules.specs.Refusals.{meaning, refused, rows}
@@ -105,6 +105,16 @@ typedBytes pv option =
 abbrev pub twoRows : List ℕ → List ℕ
 twoRows second =
     typedBytes 3000 0 ++ typedBytes 3000 1 ++ rowBytes 0 1 0 4 10 3100 0 0 0 0 ++ second ++ trailerBytes 2 2 (span 2 2) 0
+
+-- The sizes and limits by their numbers, since everything else has their names alone.
+abbrev pub Sizes : Type 0
+Sizes =
+    (trailerWidth ≡ 12)
+    × (seriesWidth ≡ 24)
+    × (positionWidth ≡ 32)
+    × (mostBytes ≡ 65_536)
+    × (mostSeries ≡ 32)
+    × (mostPositions ≡ 256)
 
 -- Every refusal of a file by its number and row.
 abbrev pub Numbers : Type 0
