@@ -3,7 +3,7 @@
  *
  * Link with libserpentgleam.a, which `rt staticlib serpentgleam` writes below target/staticlib. The library has no state,
  * takes no memory from a heap, starts no thread and calls nothing of the operating system: every call may be made from
- * any thread, and calls on different threads do not affect each other. A call needs about 36 KB of stack.
+ * any thread, and calls on different threads do not affect each other. A call needs about 40 KB of stack.
  *
  * It reads the bytes handed over during the call alone, keeps no pointer to them and writes nothing to them; the caller
  * owns them before, during and after. The same holds of a list of lines, which it writes during the call alone and which

@@ -11,8 +11,9 @@ use native.Mathlib.Omega.{arith}
 use lib.Dec.{ltb}
 use lib.ListN.{length, length-append}
 use borrow.Author.Tests.{le-ltb, lt-ltb}
-use Rattle.lines.specs.LineNumbers.{LineWritten, lineFrom, linesFrom}
-use Rattle.pairing.specs.Keys.{nth}
+use Rattle.lines.proofs.LinesHeld.{lines-more, lines-same}
+use Rattle.lines.specs.LineNumbers.{LineWritten, linesFrom}
+use Rattle.numbers.specs.Lists.{nth}
 use Rattle.lines_and_total.specs.Listing.{Added, RowAsked, RowsAsked, leftAmountAt, leftOf}
 use Rattle.pairing.specs.declared.Tally.{Tally}
 use Rattle.rules.proofs.LineLaws.{length-leftLines}
@@ -27,17 +28,6 @@ tally count total = record { count = count; total = total }
 
 abbrev pub leftEntry : ℕ → ℕ → ℕ → Line
 leftEntry row q m = record { kind = 2; secondNumber = row; thirdNumber = q; fourthNumber = m; fifthNumber = 0 }
-
-lines-same : (x y : List ℕ) (n : ℕ) → ((i : ℕ) → i < 5 * n → nth x i ≡ nth y i) → linesFrom x n ≡ linesFrom y n
-unfolding linesFrom
-lines-same x y zero f = refl
-lines-same x y (suc n) f =
-    ap₂ (λ a b. a ++ (b ∷ [])) (lines-same x y n (λ i l. f i (omega arith)))
-    (rw (f (5 * n) (omega arith), f (5 * n + 1) (omega arith), f (5 * n + 2) (omega arith), f (5 * n + 3) (omega arith), f (5 * n + 4) (omega arith)))
-
-lines-more : (x : List ℕ) (n : ℕ) → linesFrom x (n + 1) ≡ linesFrom x n ++ (lineFrom x n ∷ [])
-unfolding linesFrom
-lines-more x n = rw add-one
 
 pub left-more : (a : Account) (left : ℕ → ℕ) (r : ℕ) → leftLines a left (r + 1) ≡ leftLines a left r ++ leftOf a left r
 unfolding leftLines
@@ -121,12 +111,14 @@ pub rows-end : (a : Account) (left : ℕ → ℕ) (r p : ℕ) (n₀ n : List ℕ
 rows-end a left r p n₀ n t₀ t h g f = let e : p ≡ r = omega arith in rw e f
 
 -- What the next row asks.
-pub row-asks : (b : List ℕ) (l : Layout) (left n₀ n : List ℕ) (t₀ t : Tally) (row : ℕ) → RowsAsked b l left n₀ t₀ → row < l .positions
-    → Added (leftLines (accountOf b l) (nth left) row) n₀ n t₀ t → RowAsked b l left n t row
-row-asks b l left n₀ n t₀ t row ok h f =
+pub row-asks : (b : List ℕ) (l : Layout) (table left n₀ n : List ℕ) (t₀ t : Tally) (row : ℕ) → RowsAsked b l table left n₀ t₀ → row < l .positions
+    → Added (leftLines (accountOf b l) (nth left) row) n₀ n t₀ t → RowAsked b l table left n t row
+row-asks b l table left n₀ n t₀ t row ok h f =
     record {
       file = ok .file;
       row-below = h;
+      table-room = ok .table-room;
+      units = ok .units;
       lefts = ok .lefts;
       left-most = ok .left-most row h;
       room = omega (arith, ok .room, f .numbers-length);

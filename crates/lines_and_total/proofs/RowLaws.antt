@@ -1,6 +1,7 @@
 -- Rows as the code reads them: contracts, premiums and amounts left.
 -- Assumes nothing.
 use Prim.Native.Nat.{ℕ, _+_, _≤_, _<_}
+use mathlib.Core.Bool.{true}
 use mathlib.Core.List.{List}
 use mathlib.Core.Logic.{_⊎_, inl, inr}
 use mathlib.Core.Path.{_≡_, refl, sym, ap, subst, _∙_}
@@ -8,26 +9,31 @@ use native.Mathlib.Nat.{eq-or-lt-of-le}
 use native.Mathlib.Omega.{arith}
 use lib.ListN.{length, set}
 use lib.Seq.{getD-set-other, getD-set-same}
-use Rattle.account.proofs.KnownRows.{series-below}
 use Rattle.account.specs.Known.{Known}
-use Rattle.pairing.specs.Keys.{nth}
-use Rattle.lines_and_total.specs.Listing.{ContractsTo, leftAmountAt, rowPremium}
+use Rattle.numbers.specs.Lists.{nth}
+use Rattle.lines_and_total.specs.Listing.{AmountAsked, ContractsTo, LeftAsked, leftAmountAt, rowPremium}
 use Rattle.position.proofs.RowsFit.{at-row, row-fits}
 use Rattle.position.specs.Fits.{RowFits}
 use Rattle.rules.specs.File.{Account, accountOf}
 use Rattle.rules.specs.Lines.{heldPremium, leftAmount}
-use Rattle.rules.specs.Pairs.{available}
+use Rattle.rules.specs.OnePosition.{unitMargin}
+use Rattle.rules.specs.Pairs.{available, isWritten}
 use Rattle.rules.specs.declared.Layout.{Layout}
 use Rattle.rules.specs.declared.Position.{Position}
 use Rattle.rules.specs.declared.Series.{Series}
 
--- A position read from an accepted file has a series.
-pub has-series : (b : List ℕ) (l : Layout) → Known b l → (row : ℕ) (p : Position) → row < l .positions → p ≡ accountOf b l .positionAt row → p .series < l .series
-has-series b l k row p h e = subst (λ (x : Position). x .series < l .series) (sym e) (series-below b l k row h)
-
 module _ (b : List ℕ) (l : Layout) (row : ℕ) (s : Series) (p : Position) (ep : p ≡ accountOf b l .positionAt row) (es : s ≡ accountOf b l .seriesAt (p .series)) where
   pub read-fits : Known b l → row < l .positions → RowFits s p
   read-fits k h = at-row RowFits (accountOf b l) row s p ep es (row-fits b l k row h)
+
+  pub left-asks : (unit q : ℕ) → AmountAsked b l row unit q → LeftAsked s p unit q
+  left-asks unit q ask =
+      record {
+        fits = read-fits (ask .file) (ask .row-below);
+        unit-is =
+            at-row (λ s p. isWritten (p .side) ≡ true → unit ≡ unitMargin s p) (accountOf b l) row s p ep es (ask .unit-is);
+        q-most = ask .q-most;
+      }
 
   pub premium-is : heldPremium (p .side) s p ≡ rowPremium (accountOf b l) row
   premium-is = at-row (λ s p. heldPremium (p .side) s p ≡ rowPremium (accountOf b l) row) (accountOf b l) row s p ep es refl

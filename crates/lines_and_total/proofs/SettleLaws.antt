@@ -5,12 +5,12 @@ use Prim.Native.Nat.{ℕ, _+_, _≤_, _<_, min}
 use mathlib.Core.List.{List, _++_}
 use mathlib.Core.Path.{_≡_, refl, sym, ap, ap₂, _∙_}
 use native.Mathlib.Omega.{arith}
-use lib.ListN.{length, length-append}
+use lib.ListN.{length, length-append, replicate, getD-replicate, length-replicate}
 use borrow.Author.Tests.{le-ltb, lt-ltb}
 use Rattle.account.proofs.KnownRows.{known, position-within}
 use Rattle.account.specs.Known.{Known}
-use Rattle.pairing.specs.Keys.{nth}
-use Rattle.pairing.specs.Pairing.{Paired, PairingAsked}
+use Rattle.numbers.specs.Lists.{nth}
+use Rattle.pairing.specs.Pairing.{Paired, PairedUp, PairingAsked}
 use Rattle.pairing.specs.declared.Tally.{Tally}
 use Rattle.lines.specs.LineNumbers.{linesFrom, mostNumbers}
 use Rattle.lines_and_total.proofs.ListingLaws.{left-same}
@@ -33,18 +33,32 @@ use Rattle.rules.specs.declared.MarginAnswer.the-variants.{NoTotal, Total}
 use Rattle.rules.specs.declared.Refusal.{Refusal}
 use Rattle.rules.specs.declared.Refusal.the-variants.{ListTooShort}
 
-pub pairing-asks : (b : List ℕ) (l : Layout) (left numbers : List ℕ) → Known b l → length left ≡ 256 → length numbers ≡ 1280
-    → ContractsTo (accountOf b l) left (l .positions) → PairingAsked b l left numbers
-pairing-asks b l left numbers k el en f = record { file = k; lefts = omega arith; room = omega arith; contracts = f }
+pub pairing-asks : (b : List ℕ) (l : Layout) (left numbers : List ℕ) → Known b l → length left ≡ 256 → length numbers ≡ mostNumbers
+    → ContractsTo (accountOf b l) left (l .positions) → PairingAsked b l (replicate 1280 0) left numbers
+pairing-asks b l left numbers k el en f =
+    record {
+      table-new =
+          record {
+            file = k;
+            room = omega (arith, length-replicate {A = ℕ} 1280 0);
+            no-lines = λ v h. getD-replicate {A = ℕ} 1280 (1024 + v) 0 0 (omega arith);
+          };
+      lefts = omega arith;
+      room = omega arith;
+      contracts = f;
+    }
 
 -- What the rows left ask, after all pairs.
-pub rows-ask : (b : List ℕ) (l : Layout) (n₀ left n : List ℕ) (t : Tally) → Known b l → length left ≡ 256 → length n ≡ 1280
-    → Paired (accountOf b l) n₀ left n t → RowsAsked b l left n t
+pub rows-ask : (b : List ℕ) (l : Layout) (n₀ table left n : List ℕ) (t : Tally) → Known b l → length left ≡ 256 → length n ≡ mostNumbers
+    → PairedUp (accountOf b l) n₀ table left n t → RowsAsked b l table left n t
 unfolding openRows
-rows-ask b l n₀ left n t k el en p =
+rows-ask b l n₀ table left n t k el en up =
     let a = accountOf b l in
+    let p = up .paired in
     record {
       file = k;
+      table-room = up .room;
+      units = up .units;
       lefts = omega (arith, k .placed .positions-most);
       left-most = λ r h. omega (arith, p .left-is r h, left-falls (bookOf a) (available a) (l .positions) r, position-within b l k r h .q-most);
       room = omega arith;

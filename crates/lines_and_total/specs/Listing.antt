@@ -1,19 +1,25 @@
 -- What the parts of the whole account ask and promise. Lines and total are said relative to those already there.
 use Prim.Native.Nat.{ℕ, _+_, _*_, _≤_, _<_, min}
-use mathlib.Core.Bool.{cond}
+use mathlib.Core.Bool.{cond, true}
 use mathlib.Core.List.{List, [], _∷_, _++_}
 use mathlib.Core.Path.{_≡_}
 use lib.Dec.{ltb}
 use lib.ListN.{length}
 use Rattle.account.specs.Known.{Known}
-use Rattle.pairing.specs.Keys.{nth}
-use Rattle.lines.specs.LineNumbers.{linesFrom}
+use Rattle.lanes.specs.Keys.{tableSize}
+use Rattle.lanes.specs.Marks.{Units}
+use Rattle.numbers.specs.Lists.{nth}
+use Rattle.lines.specs.LineNumbers.{linesFrom, mostNumbers}
 use Rattle.pairing.specs.declared.Tally.{Tally}
-use Rattle.rules.specs.File.{Account, seriesOfRow}
-use Rattle.rules.specs.Lines.{heldPremium, leftAmount, leftLine, lineAmount, lines, sumOver, sumTo}
-use Rattle.rules.specs.Pairs.{available}
+use Rattle.position.specs.Fits.{RowFits}
+use Rattle.rules.specs.File.{Account, accountOf, seriesOfRow}
+use Rattle.rules.specs.Lines.{heldPremium, leftAmount, leftLine, lineAmount, lines, mostLines, sumOver, sumTo}
+use Rattle.rules.specs.OnePosition.{unitMargin}
+use Rattle.rules.specs.Pairs.{available, isWritten}
 use Rattle.rules.specs.declared.Layout.{Layout}
 use Rattle.rules.specs.declared.Line.{Line}
+use Rattle.rules.specs.declared.Position.{Position}
+use Rattle.rules.specs.declared.Series.{Series}
 
 -- The first n numbers are the contracts of rows 0 to n - 1.
 abbrev pub ContractsTo : Account → List ℕ → ℕ → Type 0
@@ -39,24 +45,42 @@ pub record Added (extra : List Line) (numbers₀ numbers : List ℕ) (t₀ t : T
   pub total-most : t .total ≤ t₀ .total + 10_000_000_000_000_000 * length extra
   pub numbers-length : length numbers ≡ length numbers₀
 
--- What the line of one row asks: a row of an accepted file with contracts left within its range, and room for it after
--- the lines of t.
-pub record RowAsked (b : List ℕ) (l : Layout) (left numbers : List ℕ) (t : Tally) (row : ℕ) : Type 0 where
+-- What the amount of q contracts left asks: of a written position its unit margin.
+pub record LeftAsked (s : Series) (p : Position) (unit q : ℕ) : Type 0 where
+  pub fits : RowFits s p
+  pub unit-is : isWritten (p .side) ≡ true → unit ≡ unitMargin s p
+  pub q-most : q ≤ 100_000
+
+-- The same of a row.
+pub record AmountAsked (b : List ℕ) (l : Layout) (row unit q : ℕ) : Type 0 where
   pub file : Known b l
   pub row-below : row < l .positions
+  pub unit-is : isWritten (accountOf b l .positionAt row .side) ≡ true
+      → unit ≡ unitMargin (seriesOfRow (accountOf b l) row) (accountOf b l .positionAt row)
+  pub q-most : q ≤ 100_000
+
+-- What the line of one row asks: a row of an accepted file, the unit margins, contracts left within their range, and room
+-- for the line after the lines of t.
+pub record RowAsked (b : List ℕ) (l : Layout) (table left numbers : List ℕ) (t : Tally) (row : ℕ) : Type 0 where
+  pub file : Known b l
+  pub row-below : row < l .positions
+  pub table-room : tableSize ≤ length table
+  pub units : Units (accountOf b l) table
   pub lefts : l .positions ≤ length left
   pub left-most : nth left row ≤ 100_000
-  pub room : 1280 ≤ length numbers
-  pub few : t .count + min 1 (nth left row) ≤ 256
+  pub room : mostNumbers ≤ length numbers
+  pub few : t .count + min 1 (nth left row) ≤ mostLines
   pub total-most : t .total ≤ 10_000_000_000_000_000 * t .count
 
--- What the lines of all rows ask: together with the lines of t there are at most 256.
-pub record RowsAsked (b : List ℕ) (l : Layout) (left numbers : List ℕ) (t : Tally) : Type 0 where
+-- What the lines of all rows ask: together with the lines of t there are at most `mostLines`.
+pub record RowsAsked (b : List ℕ) (l : Layout) (table left numbers : List ℕ) (t : Tally) : Type 0 where
   pub file : Known b l
+  pub table-room : tableSize ≤ length table
+  pub units : Units (accountOf b l) table
   pub lefts : l .positions ≤ length left
   pub left-most : (r : ℕ) → r < l .positions → nth left r ≤ 100_000
-  pub room : 1280 ≤ length numbers
-  pub few : t .count + sumTo (λ r. min 1 (nth left r)) (l .positions) ≤ 256
+  pub room : mostNumbers ≤ length numbers
+  pub few : t .count + sumTo (λ r. min 1 (nth left r)) (l .positions) ≤ mostLines
   pub total-most : t .total ≤ 10_000_000_000_000_000 * t .count
 
 -- All lines of the account and the sum of their amounts.
@@ -64,5 +88,5 @@ pub record AccountListed (a : Account) (numbers : List ℕ) (t : Tally) : Type 0
   pub count-is : t .count ≡ length (lines a)
   pub lines-are : linesFrom numbers (t .count) ≡ lines a
   pub total-is : t .total ≡ sumOver lineAmount (lines a)
-  pub total-most : t .total ≤ 2_560_000_000_000_000_000
-  pub numbers-length : length numbers ≡ 1280
+  pub total-most : t .total ≤ 10_000_000_000_000_000 * mostLines
+  pub numbers-length : length numbers ≡ mostNumbers

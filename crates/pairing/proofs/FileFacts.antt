@@ -2,45 +2,29 @@
 -- Assumes nothing.
 use Prim.Native.Nat.{ℕ, _≤_, _<_}
 use mathlib.Core.List.{List}
-use mathlib.Core.Path.{_≡_}
+use mathlib.Core.Path.{_≡_, sym, subst}
 use mathlib.Core.Bool.{true}
 use native.Mathlib.Omega.{arith}
 use Rattle.account.proofs.KnownRows.{position-within, row-series}
 use Rattle.account.specs.Known.{Known}
-use Rattle.pairing.specs.Keys.{InRange}
 use Rattle.rules.proofs.Bounds.{unit-most}
 use Rattle.rules.proofs.MayPair.{may-pairable}
-use Rattle.rules.specs.File.{Account, accountOf, positionRow, seriesOfRow, seriesRow}
+use Rattle.rules.specs.File.{accountOf, layout, positionRow, seriesOfRow, seriesRow}
 use Rattle.rules.specs.Limits.{PositionWithin}
 use Rattle.rules.specs.Lines.{spreadUnit}
 use Rattle.rules.specs.Pairs.{mayOf}
 use Rattle.rules.specs.Spreads.{unitSpread}
 use Rattle.rules.specs.declared.Layout.{Layout}
-use Rattle.rules.specs.declared.Position.{Position}
 use Rattle.rules.specs.declared.PositionRow.{PositionRow}
-
--- The ranges that keys and ranks rest on.
-pub record Ranged (a : Account) : Type 0 where
-  pub rows-most : a .positions ≤ 256
-  pub series-most : (r : ℕ) → r < a .positions → a .positionAt r .series ≤ 32
-  pub pe-most : (r : ℕ) → r < a .positions → a .positionAt r .terms .pe ≤ 10_000_000
 
 module _ (b : List ℕ) (l : Layout) (ok : Known b l) where
   pub row-within : (i : ℕ) → i < l .positions
       → PositionWithin (l .series) (seriesRow b l (positionRow b l i .series)) (positionRow b l i)
-  row-within = position-within b l (ok)
+  row-within = position-within b l ok
 
-  pub ranged : Ranged (accountOf b l)
-  ranged =
-      record {
-        rows-most = ok .placed .positions-most;
-        series-most = λ r h. omega (arith, row-within r h .series-below, ok .placed .series-most);
-        pe-most = λ r h. row-within r h .pe-most;
-      }
-
-  -- A row as the code read it.
-  pub in-range : (i : ℕ) (p : Position) → i < l .positions → p ≡ accountOf b l .positionAt i → InRange p
-  in-range i p h e = rw e (record { series-most = ranged .series-most i h; pe-most = ranged .pe-most i h })
+  pub some-rows : 1 ≤ l .positions
+  unfolding layout
+  some-rows = subst (λ (x : Layout). 1 ≤ x .positions) (sym (ok .layout-is)) (ok .within .trailer .positions-least)
 
   pub row-range : (i : ℕ) (row : PositionRow) → i < l .positions → row ≡ positionRow b l i
       → PositionWithin (l .series) (seriesRow b l (row .series)) row
@@ -51,7 +35,7 @@ module _ (b : List ℕ) (l : Layout) (ok : Known b l) where
       → spreadUnit (unitSpread (seriesOfRow (accountOf b l) w) (accountOf b l .positionAt h) (accountOf b l .positionAt w)) ≤ 100_000_000_000_000
   spread-most w h lw e =
       let p = may-pairable (accountOf b l) w h e in
-      rw (p .spread-is) (omega (arith, p .spread-less, unit-most (row-series b l (ok) w lw) (row-within w lw)))
+      rw (p .spread-is) (omega (arith, p .spread-less, unit-most (row-series b l ok w lw) (row-within w lw)))
 
   pub factor-most : (w : ℕ) → w < l .positions → seriesRow b l (positionRow b l w .series) .m ≤ 1_000
-  factor-most w lw = row-series b l (ok) w lw .m-most
+  factor-most w lw = row-series b l ok w lw .m-most

@@ -11,14 +11,12 @@ use lib.Seq.{getD-set-other, getD-set-same}
 use borrow.Author.Tests.{eqb-false, eqb-true}
 use Rattle.pairing.proofs.FileFacts.{factor-most}
 use Rattle.account.specs.Known.{Known}
-use Rattle.pairing.specs.Keys.{nth}
+use Rattle.numbers.specs.Lists.{nth}
 use Rattle.pairing.specs.Pairing.{PairAsked, PairWritten}
 use Rattle.lines.specs.LineNumbers.{LineWritten}
 use Rattle.rules.specs.File.{accountOf, positionRow, seriesOfRow, seriesRow}
-use Rattle.rules.specs.Lines.{spreadAmount, spreadUnit}
 use Rattle.rules.specs.OnePosition.{amountOf}
 use Rattle.rules.specs.Pairs.{taken}
-use Rattle.rules.specs.Spreads.{unitSpread}
 use Rattle.rules.specs.declared.Choice.the-variants.{Pair}
 use Rattle.rules.specs.declared.Layout.{Layout}
 use Rattle.rules.specs.declared.Line.{Line}
@@ -46,26 +44,23 @@ taken-is left w h q two lw lh eq r = go (eqb r w) (eqb r h) refl refl
         getD-set-other (set left w (nth left w - q)) h r (nth left h - q) 0 (eqb-false r h b)
         ∙ getD-set-other left w r (nth left w - q) 0 (eqb-false r w a)
 
--- The amount as the code computes it.
-pub amount-is : (b : List ℕ) (l : Layout) (w h q u r : ℕ) (row : PositionRow) (s : SeriesRow) → row ≡ positionRow b l w
-    → s ≡ seriesRow b l (row .series)
-    → u ≡ spreadUnit (unitSpread (seriesOfRow (accountOf b l) w) (accountOf b l .positionAt h) (accountOf b l .positionAt w))
-    → r ≡ amountOf u (s .m) q → r ≡ spreadAmount (accountOf b l) (record { written = w; held = h; quantity = q })
-amount-is b l w h q u r row s er es eu e =
+-- The factor of a row's series as the code reads it.
+pub amount-is : (b : List ℕ) (l : Layout) (w q u r : ℕ) (row : PositionRow) (s : SeriesRow) → row ≡ positionRow b l w
+    → s ≡ seriesRow b l (row .series) → r ≡ amountOf u (s .m) q → r ≡ amountOf u (seriesOfRow (accountOf b l) w .m) q
+amount-is b l w q u r row s er es e =
     let m : s .m ≡ seriesOfRow (accountOf b l) w .m = ap (λ (x : SeriesRow). x .m) (es ∙ ap (λ (x : PositionRow). seriesRow b l (x .series)) er) in
-    e ∙ ap₂ (λ x y. amountOf x y q) eu m
+    e ∙ ap (λ y. amountOf u y q) m
 
 abbrev lineOf : ℕ → ℕ → ℕ → ℕ → Line
 lineOf w h q m = record { kind = 1; secondNumber = w; thirdNumber = h; fourthNumber = q; fifthNumber = m }
 
 -- One pair made.
-pub pair-written : (b : List ℕ) (l : Layout) (left numbers : List ℕ) (k w h : ℕ) → PairAsked b l left numbers k w h
-    → (q m : ℕ) → q ≡ min (nth left w) (nth left h)
-    → m ≡ spreadAmount (accountOf b l) (record { written = w; held = h; quantity = q }) → m ≤ 10_000_000_000_000_000
+pub pair-written : (b : List ℕ) (l : Layout) (left numbers : List ℕ) (k w h spread : ℕ) → PairAsked b l left numbers k w h spread
+    → (q m : ℕ) → q ≡ min (nth left w) (nth left h) → m ≡ amountOf spread (seriesOfRow (accountOf b l) w .m) q → m ≤ 10_000_000_000_000_000
     → (numbers′ : List ℕ) → LineWritten k (lineOf w h q m) numbers numbers′ → length numbers′ ≡ length numbers
     → PairWritten (accountOf b l) k w h left numbers (set (set left w (nth left w - q)) h (nth left h - q)) numbers′ m
-pair-written b l left numbers k w h ok q m eq em most numbers′ f len =
-    let is = em ∙ ap (λ z. spreadAmount (accountOf b l) (record { written = w; held = h; quantity = z })) eq in
+pair-written b l left numbers k w h spread ok q m eq em most numbers′ f len =
+    let is = em ∙ ap₂ (λ x z. amountOf x (seriesOfRow (accountOf b l) w .m) z) (ok .spread-is) eq in
     record {
       amount-is = is;
       amount-most = most;

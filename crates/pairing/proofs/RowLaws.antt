@@ -1,18 +1,26 @@
--- What is kept of a row, return by return.
+-- What is kept of a row at the start, and its three stores.
 -- Assumes nothing.
 use Prim.Native.Nat.{ℕ, _+_, _%_, _≤_, _<_}
-use mathlib.Core.Bool.{Bool, true, false, _&&_, true≢false}
+use mathlib.Core.Bool.{Bool, true, false, cond, _&&_, true≢false}
 use mathlib.Core.List.{List}
 use mathlib.Core.Path.{_≡_, refl, sym, ap, _∙_}
 use native.Mathlib.Omega.{arith}
+use lib.Dec.{ltb}
 use lib.ListN.{length, set, length-set}
 use lib.Seq.{getD-set-other, getD-set-same}
-use Rattle.pairing.proofs.CursorLaws.{cursor-starts, open-may}
-use Rattle.pairing.proofs.FileFacts.{ranged}
-use Rattle.pairing.specs.Cursors.{AtOpen, AtPair, Cursor, Kept, PlacesPut, Ranked, Row, Shut, UnitOf}
-use Rattle.pairing.specs.Keys.{Links, idle, nth, pairsAsHeld, pairsAsWritten}
+use borrow.Author.Tests.{ltb-true}
+use Rattle.lanes.proofs.FileFacts.{ranged, row-range}
+use Rattle.lanes.proofs.MarkLaws.{mark-role}
+use Rattle.lanes.specs.Keys.{Links, pairsAsHeld, pairsAsWritten}
+use Rattle.lanes.specs.Marks.{roleOf, sideRole}
+use Rattle.numbers.specs.Lists.{nth}
+use Rattle.pairing.proofs.CursorLaws.{cursor-starts}
+use Rattle.pairing.proofs.SearchLaws.{nothing-kept}
+use Rattle.pairing.specs.Cursors.{Cursor, Kept, Places, Row, idle}
+use Rattle.pairing.specs.Standings.{PlacesPut}
 use Rattle.pairing.specs.declared.Standing.{Standing}
 use Rattle.rules.proofs.MayPair.{may-pairable}
+use Rattle.rules.proofs.Tests.{both}
 use Rattle.rules.specs.File.{accountOf}
 use Rattle.rules.specs.Pairs.{europeanOrBeforeAnnex, isHeld, isWritten}
 use Rattle.rules.specs.declared.Layout.{Layout}
@@ -20,82 +28,71 @@ use Rattle.rules.specs.declared.Position.{Position}
 use Rattle.rules.specs.declared.Side.{Side}
 use Rattle.rules.specs.declared.Side.the-variants.{Held, Written}
 
--- A written row is not a held one.
-out-of-lanes : (p : Position) → pairsAsWritten p ≡ true → pairsAsHeld p ≡ false
-out-of-lanes p = go (p .side)
+-- A row of role 1 is a written one that pairs, and none of the lanes; a row of another role is no such row.
+pub record WrittenRow (p : Position) : Type 0 where
+  pub written : pairsAsWritten p ≡ true
+  pub outside : pairsAsHeld p ≡ false
+  pub pairs : europeanOrBeforeAnnex p ≡ true
+
+pub role-written : (p : Position) → roleOf p ≡ 1 → WrittenRow p
+role-written p = go (p .side) (europeanOrBeforeAnnex p) refl refl
   where
-    go : (s : Side) → (isWritten s && europeanOrBeforeAnnex p) ≡ true → (isHeld s && europeanOrBeforeAnnex p) ≡ false
-    go Held e = absurd (true≢false (sym e))
-    go Written e = refl
+    go : (s : Side) (t : Bool) → p .side ≡ s → europeanOrBeforeAnnex p ≡ t → cond t (sideRole s) 2 ≡ 1 → WrittenRow p
+    go Held true es et e = absurd (omega arith)
+    go Held false es et e = absurd (omega arith)
+    go Written true es et e = record { written = rw (es, et) refl; outside = rw es refl; pairs = et }
+    go Written false es et e = absurd (omega arith)
 
-module _ (b : List ℕ) (l : Layout) (left : List ℕ) (w : ℕ) (row : Row b l left w) where
-  -- A row that has no open pair.
-  nothing-kept : Shut (accountOf b l) left w → (t : Standing) → t .rank ≡ idle → Kept (accountOf b l) left w t
-  nothing-kept shut t e =
-      record {
-        ranked =
-            record {
-              lowest = λ q. absurd (omega arith);
-              row = λ q. absurd (omega arith);
-              may-pair = λ q. absurd (omega arith);
-              is-rank = λ q. absurd (omega arith);
-              shut = λ q. shut;
-              above = λ q. omega arith;
-            };
-        places = λ q. absurd (omega arith);
-      }
+pub role-other : (p : Position) → (roleOf p ≡ 1 → ⊥) → pairsAsWritten p ≡ true → ⊥
+role-other p = go (p .side) (europeanOrBeforeAnnex p)
+  where
+    go : (s : Side) (t : Bool) → (cond t (sideRole s) 2 ≡ 1 → ⊥) → (isWritten s && t) ≡ true → ⊥
+    go Held t n e = true≢false (sym e)
+    go Written true n e = n refl
+    go Written false n e = true≢false (sym e)
 
-  -- The row as the code read it, and its test.
-  module _ (p : Position) (is : p ≡ accountOf b l .positionAt w) (t : Bool) (tested : t ≡ pairsAsWritten p) where
-    test-is : t ≡ pairsAsWritten (accountOf b l .positionAt w)
-    test-is = tested ∙ ap pairsAsWritten is
-
-    pub is-written : t ≡ true → pairsAsWritten (accountOf b l .positionAt w) ≡ true
-    is-written e = sym test-is ∙ e
-
-    pub not-written : t ≡ false → (s : Standing) → s .rank ≡ idle → Kept (accountOf b l) left w s
-    not-written e =
-        nothing-kept
-        (λ h lh o.
-        let p = may-pairable (accountOf b l) w h (open-may (accountOf b l) (ranged b l (row .file)) left w (row .row) h lh o) in
-        let yes : pairsAsWritten (accountOf b l .positionAt w) ≡ true = rw (p .is-written, p .written-terms) in
-        true≢false (sym yes ∙ sym test-is ∙ e))
+module _ (b : List ℕ) (l : Layout) (left table : List ℕ) (w : ℕ) (row : Row b l left table w) where
+  role-is : nth table w % 256 ≡ roleOf (accountOf b l .positionAt w)
+  role-is =
+      rw (row .rests .filled .marks w (row .row))
+      (mark-role (accountOf b l .positionAt w) (row-range (accountOf b l) (ranged b l (row .rests .file)) w (row .row)))
 
   -- Its first places: a written row is in no lane itself.
-  pub starts : pairsAsWritten (accountOf b l .positionAt w) ≡ true → (o : ℕ) (links : List ℕ) → Links (accountOf b l) o links
-      → Cursor (accountOf b l) left o w (nth links (o + w))
-  starts e o links f =
-      cursor-starts (accountOf b l) (ranged b l (row .file)) left w (row .row) o links
-      (out-of-lanes (accountOf b l .positionAt w) e) f
-
-  pair-at : (o u : ℕ) → AtOpen (accountOf b l) left o w u → AtPair (accountOf b l) left o w u
-  pair-at o u c =
+  pub first-places : nth table w % 256 ≡ 1 → Places (accountOf b l) left w (nth table (256 + w)) (nth table (512 + w))
+  first-places e =
+      let r = role-written (accountOf b l .positionAt w) (sym role-is ∙ e) in
+      let ok = ranged b l (row .rests .file) in
       record {
-        cursor = c .cursor;
-        may-pair = λ q. open-may (accountOf b l) (ranged b l (row .file)) left w (row .row) (u % 256) (c .cursor .row q) (c .is-open q);
+        up = cursor-starts (accountOf b l) ok left w (row .row) 256 table (r .outside) (r .pairs) (row .rests .filled .up);
+        down = cursor-starts (accountOf b l) ok left w (row .row) 512 table (r .outside) (r .pairs) (row .rests .filled .down);
+        written = r .written;
       }
 
-  pub kept-from : (t : Standing) → Ranked (accountOf b l) left w (t .rank) → AtOpen (accountOf b l) left 256 w (t .up)
-      → AtOpen (accountOf b l) left 512 w (t .down) → UnitOf (accountOf b l) w (t .unit)
-      → pairsAsWritten (accountOf b l .positionAt w) ≡ true → Kept (accountOf b l) left w t
-  kept-from t r up down unit written =
-      record { ranked = r; places = λ q. record { up = pair-at 256 (t .up) up; down = pair-at 512 (t .down) down; unit = unit; written = written } }
+  pub not-written : (nth table w % 256 ≡ 1 → ⊥) → (t : Standing) → t .rank ≡ idle → Kept (accountOf b l) left w t
+  not-written e =
+      nothing-kept (accountOf b l) left w
+      (λ h lh o.
+      let p = may-pairable (accountOf b l) w h (o .may-pair) in
+      role-other (accountOf b l .positionAt w) (λ q. e (role-is ∙ q)) (rw (p .is-written, p .written-terms)))
+
+pub both-some : (x y : ℕ) → (ltb 0 x && ltb 0 y) ≡ true → (1 ≤ x) × (1 ≤ y)
+both-some x y e = let t = both (ltb 0 x) (ltb 0 y) e in (ltb-true 0 x (t .0), ltb-true 0 y (t .1))
 
 -- Three stores.
 abbrev pub put : List ℕ → ℕ → Standing → List ℕ
-put places w t = set (set (set places w (t .up)) (256 + w) (t .down)) (512 + w) (t .unit)
+put places w t = set (set (set places w (t .up)) (256 + w) (t .down)) (512 + w) (t .spread)
 
 pub places-put : (places : List ℕ) (w : ℕ) (t : Standing) → 768 ≤ length places → w < 256 → PlacesPut places (put places w t) w t
 places-put places w t long lw =
     record {
       up =
-          getD-set-other (set (set places w (t .up)) (256 + w) (t .down)) (512 + w) w (t .unit) 0 (λ (q : w ≡ 512 + w). omega arith)
+          getD-set-other (set (set places w (t .up)) (256 + w) (t .down)) (512 + w) w (t .spread) 0 (λ (q : w ≡ 512 + w). omega arith)
           ∙ getD-set-other (set places w (t .up)) (256 + w) w (t .down) 0 (λ (q : w ≡ 256 + w). omega arith)
           ∙ getD-set-same places w (t .up) 0 (omega arith);
       down =
-          getD-set-other (set (set places w (t .up)) (256 + w) (t .down)) (512 + w) (256 + w) (t .unit) 0 (λ (q : 256 + w ≡ 512 + w). omega arith)
+          getD-set-other (set (set places w (t .up)) (256 + w) (t .down)) (512 + w) (256 + w) (t .spread) 0 (λ (q : 256 + w ≡ 512 + w). omega arith)
           ∙ getD-set-same (set places w (t .up)) (256 + w) (t .down) 0 (simp length-set (omega arith));
-      unit = getD-set-same (set (set places w (t .up)) (256 + w) (t .down)) (512 + w) (t .unit) 0 (simp length-set (omega arith));
+      spread = getD-set-same (set (set places w (t .up)) (256 + w) (t .down)) (512 + w) (t .spread) 0 (simp length-set (omega arith));
       others =
           λ v lv d. (
             past v (λ q. d q) (λ (q : v ≡ 256 + w). omega arith) (λ (q : v ≡ 512 + w). omega arith),
@@ -106,6 +103,6 @@ places-put places w t long lw =
   where
     past : (n : ℕ) → (n ≡ w → ⊥) → (n ≡ 256 + w → ⊥) → (n ≡ 512 + w → ⊥) → nth (put places w t) n ≡ nth places n
     past n a b c =
-        getD-set-other (set (set places w (t .up)) (256 + w) (t .down)) (512 + w) n (t .unit) 0 c
+        getD-set-other (set (set places w (t .up)) (256 + w) (t .down)) (512 + w) n (t .spread) 0 c
         ∙ getD-set-other (set places w (t .up)) (256 + w) n (t .down) 0 b
         ∙ getD-set-other places w n (t .up) 0 a

@@ -1,20 +1,22 @@
 -- The rounds: none, one more, the last.
 -- Assumes nothing.
-use Prim.Native.Nat.{ℕ, zero, suc, _+_, _*_, _-_, _/_, _%_, _≤_, _<_}
+use Prim.Native.Nat.{ℕ, _+_, _*_, _-_, _/_, _%_, _≤_, _<_}
 use mathlib.Core.List.{List, [], _∷_, _++_}
 use mathlib.Core.Path.{_≡_, refl, sym, ap, ap₂, _∙_}
 use native.Mathlib.Nat.{add-sub-of-le}
-use native.Mathlib.Numerals.{add-one}
 use native.Mathlib.Omega.{arith}
 use lib.ListN.{length, length-append}
 use Rattle.account.specs.Known.{Known}
-use Rattle.pairing.proofs.FileFacts.{Ranged, ranged, row-within}
-use Rattle.pairing.proofs.LeastLaws.{nothing, picked, standings-fall}
-use Rattle.pairing.specs.Cursors.{BestRank, BothLinks, Lines, Standings}
-use Rattle.pairing.specs.Keys.{Links, SameBefore, none, nth}
+use Rattle.lanes.proofs.FileFacts.{Ranged, ranged}
+use Rattle.lanes.specs.Keys.{none}
+use Rattle.numbers.specs.Lists.{nth}
+use Rattle.pairing.proofs.FileFacts.{row-within}
+use Rattle.pairing.proofs.LeastLaws.{least-told, nothing, picked, standings-fall}
+use Rattle.pairing.specs.Standings.{BestRank, Lines, Standings}
 use Rattle.pairing.specs.Pairing.{PairAsked, PairWritten, Paired, PairedBy, pairOf}
 use Rattle.pairing.specs.declared.Tally.{Tally}
-use Rattle.lines.specs.LineNumbers.{lineFrom, linesFrom}
+use Rattle.lines.proofs.LinesHeld.{lines-more, lines-same}
+use Rattle.lines.specs.LineNumbers.{linesFrom}
 use Rattle.rules.proofs.Counts.{bound, open-most, room, taken-most}
 use Rattle.rules.proofs.LineLaws.{pairLines-append}
 use Rattle.rules.proofs.MayPair.{apart}
@@ -29,17 +31,6 @@ use Rattle.rules.specs.declared.Layout.{Layout}
 
 abbrev tally : ℕ → ℕ → Tally
 tally k total = record { count = k; total = total }
-
-lines-same : (x y : List ℕ) (n : ℕ) → ((i : ℕ) → i < 5 * n → nth x i ≡ nth y i) → linesFrom x n ≡ linesFrom y n
-unfolding linesFrom
-lines-same x y zero f = refl
-lines-same x y (suc n) f =
-    ap₂ (λ a b. a ++ (b ∷ [])) (lines-same x y n (λ i l. f i (omega arith)))
-    (rw (f (5 * n) (omega arith), f (5 * n + 1) (omega arith), f (5 * n + 2) (omega arith), f (5 * n + 3) (omega arith), f (5 * n + 4) (omega arith)))
-
-lines-more : (x : List ℕ) (n : ℕ) → linesFrom x (n + 1) ≡ linesFrom x n ++ (lineFrom x n ∷ [])
-unfolding linesFrom
-lines-more x n = rw add-one
 
 module _ (a : Account) (numbers₀ : List ℕ) where
   -- Before the first round.
@@ -125,28 +116,28 @@ module _ (a : Account) (numbers₀ : List ℕ) where
             numbers-length = p .numbers-length ∙ f .numbers-length;
           }
 
-pub still-standing : (a : Account) → Ranged a → (left left′ numbers numbers′ next tree places : List ℕ) (k w h m : ℕ)
-    → PairWritten a k w h left numbers left′ numbers′ m → Standings a left next tree places → Standings a left′ next tree places
-still-standing a ok left left′ numbers numbers′ next tree places k w h m p =
-    standings-fall a ok left left′ next tree places (λ r l. omega (arith, p .left-is r l, taken-most (nth left) (Pair w h) r))
+pub still-standing : (a : Account) → Ranged a → (left left′ numbers numbers′ table tree places : List ℕ) (k w h m : ℕ)
+    → PairWritten a k w h left numbers left′ numbers′ m → Standings a left table tree places → Standings a left′ table tree places
+still-standing a ok left left′ numbers numbers′ table tree places k w h m p =
+    standings-fall a ok left left′ table tree places (λ r l. omega (arith, p .left-is r l, taken-most (nth left) (Pair w h) r))
 
 -- One turn of the code's loop, with the least rank m.
-module _ (b : List ℕ) (l : Layout) (known : Known b l) (numbers₀ left numbers next tree places : List ℕ) (k total : ℕ)
-    (f : PairedBy k (accountOf b l) numbers₀ left numbers (tally k total)) (lines : Lines (accountOf b l) next)
-    (m : ℕ) (best : BestRank (accountOf b l) left next tree places m) where
+module _ (b : List ℕ) (l : Layout) (known : Known b l) (numbers₀ left numbers table tree places : List ℕ) (k total : ℕ)
+    (f : PairedBy k (accountOf b l) numbers₀ left numbers (tally k total)) (lines : Lines (accountOf b l) table)
+    (m : ℕ) (best : BestRank (accountOf b l) left table tree places m) where
   ok : Known b l
   ok = known
 
   pub round-stops : none ≤ m → Paired (accountOf b l) numbers₀ left numbers (tally k total)
   round-stops s =
       stopped (accountOf b l) numbers₀ k total left numbers f
-      (nothing (accountOf b l) (ranged b l ok) left next tree places lines (best .standings) (rw (best .least) at s))
+      (nothing (accountOf b l) (ranged b l ok) left table tree places lines (best .standings) (rw (best .least) at s))
 
   module _ (s : m < none) where
     picks : choice (bookOf (accountOf b l)) (nth left) ≡ Pair (m / 256 % 256) (m % 256)
     picks =
         rw (best .least)
-        (picked (accountOf b l) (ranged b l ok) left next tree places lines (best .standings) (rw (best .least) at s) (rw (best .least) at (best .live s)))
+        (picked (accountOf b l) (ranged b l ok) left table tree places lines (best .standings) (rw (best .least) at s) (rw (best .least) at (best .settled s)))
 
     most : (r : ℕ) → r < l .positions → nth left r ≤ 100_000
     most r lr =
@@ -158,7 +149,7 @@ module _ (b : List ℕ) (l : Layout) (known : Known b l) (numbers₀ left number
     pub round-few : l .positions ≤ 256
     round-few = ok .placed .positions-most
 
-    pub round-asks : 256 ≤ length left → 1280 ≤ length numbers → PairAsked b l left numbers k (m / 256 % 256) (m % 256)
+    pub round-asks : 256 ≤ length left → 1280 ≤ length numbers → PairAsked b l left numbers k (m / 256 % 256) (m % 256) (nth places (512 + m / 256 % 256))
     round-asks long wide =
         let at = choice-allowed (bookOf (accountOf b l)) (nth left) picks in
         record {
@@ -167,6 +158,10 @@ module _ (b : List ℕ) (l : Layout) (known : Known b l) (numbers₀ left number
           held = at .held-below;
           two = apart (accountOf b l) (m / 256 % 256) (m % 256) (at .may-pair);
           may-pair = at .may-pair;
+          spread-is =
+              rw (best .least)
+              (least-told (accountOf b l) (ranged b l ok) left table tree places lines (best .standings) (rw (best .least) at s)
+              (rw (best .least) at (best .settled s .told)) .spread-is);
           written-most = most (m / 256 % 256) (at .written-below);
           held-most = most (m % 256) (at .held-below);
           lefts = omega (arith, round-few);
@@ -177,13 +172,3 @@ module _ (b : List ℕ) (l : Layout) (known : Known b l) (numbers₀ left number
         → PairWritten (accountOf b l) k (m / 256 % 256) (m % 256) left numbers left′ numbers′ amount
         → PairedBy (k + 1) (accountOf b l) numbers₀ left′ numbers′ (tally (k + 1) (total + amount))
     round-turns = turned (accountOf b l) numbers₀ k total left numbers f (m / 256 % 256) (m % 256) picks
-
--- Both lanes: the second leaves the first as it was.
-pub both-links : (a : Account) (before links : List ℕ) → a .positions ≤ 256 → 768 ≤ length links → Links a 256 before
-    → SameBefore 512 before links → Links a 512 links → BothLinks a links
-both-links a before links few room up same down =
-    record {
-      room = room;
-      up = λ r l. rw (same (256 + r) (omega arith)) (up r l);
-      down = down;
-    }

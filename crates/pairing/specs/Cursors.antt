@@ -1,47 +1,48 @@
--- What is kept of each written row: its place in both lanes, its nearest held row as a rank, its unit margin. Everything
--- is said of the contracts left now, and stays true while they fall.
-use Prim.Native.Nat.{ℕ, _+_, _*_, _-_, _/_, _%_, _≤_, _<_}
+-- The places of a written row in both lanes, and its nearest held row as a rank. Everything is said of the contracts left
+-- now, and stays true while they fall.
+use Prim.Native.Nat.{ℕ, _+_, _*_, _-_, _/_, _%_, _≤_, _<_, min}
 use mathlib.Core.Bool.{Bool, true, cond, _&&_}
 use mathlib.Core.List.{List}
-use mathlib.Core.Logic.{_⊎_}
 use mathlib.Core.Path.{_≡_}
 use lib.Dec.{eqb, ltb}
 use lib.ListN.{length}
 use Rattle.account.specs.Known.{Known}
-use Rattle.pairing.specs.Keys.{Links, idle, key, none, nth, pairsAsWritten, start, top}
-use Rattle.pairing.specs.Tree.{LeafPut, Tree, leaf}
+use Rattle.lanes.specs.Keys.{Links, downLane, from, key, last, none, pairsAsWritten, start, top, upLane}
+use Rattle.lanes.specs.Marks.{Table, markFrom, markTop}
+use Rattle.numbers.specs.Lists.{nth}
 use Rattle.pairing.specs.declared.Standing.{Standing}
+use Rattle.pairing.specs.declared.Written.{Written}
 use Rattle.rules.proofs.PairOrder.{rank}
-use Rattle.rules.specs.File.{Account, seriesOfRow}
+use Rattle.rules.specs.File.{Account, accountOf, seriesOfRow}
+use Rattle.rules.specs.Limits.{mostPositions}
+use Rattle.rules.specs.Lines.{spreadUnit}
 use Rattle.rules.specs.OnePosition.{normal, unitMargin}
-use Rattle.rules.specs.Pairs.{bookOf, europeanOrBeforeAnnex, gapOf, isHeld, isWritten, mayOf}
+use Rattle.rules.specs.Pairs.{bookOf, europeanOrBeforeAnnex, isHeld, isWritten, mayOf}
+use Rattle.rules.specs.Spreads.{unitSpread}
 use Rattle.rules.specs.declared.Layout.{Layout}
 use Rattle.rules.specs.declared.Position.{Position}
-use Rattle.rules.specs.declared.Series.{Series}
-use Rattle.rules.specs.declared.Terms.{Terms}
 
--- What each look at row w asks: an accepted file, contracts left of every row, and the row.
-pub record Row (b : List ℕ) (l : Layout) (left : List ℕ) (w : ℕ) : Type 0 where
+-- The leaf of a row that is not spent and has no rank.
+abbrev pub idle : ℕ
+idle = 1_152_921_504_606_846_977
+
+-- What the pairing rests on: an accepted file, its table, and contracts left of every row.
+pub record Rests (b : List ℕ) (l : Layout) (left table : List ℕ) : Type 0 where
   pub file : Known b l
-  pub lefts : l .positions ≤ length left
+  pub filled : Table (accountOf b l) table
+  pub lefts : mostPositions ≤ length left
+
+-- The same with a row to look at.
+pub record Row (b : List ℕ) (l : Layout) (left table : List ℕ) (w : ℕ) : Type 0 where
+  pub rests : Rests b l left table
   pub row : w < l .positions
 
--- The written unit margin of row w.
-abbrev pub UnitOf : Account → ℕ → ℕ → Type 0
-UnitOf a w unit = unit ≡ unitMargin (seriesOfRow a w) (a .positionAt w)
-
 -- Row w as it is read once a search: its terms after flag 1, its series, its unit margin.
-pub record Reading (a : Account) (w : ℕ) (t : Terms) (s : Series) (unit : ℕ) : Type 0 where
-  pub terms-is : t ≡ normal (a .positionAt w)
-  pub series-is : s ≡ seriesOfRow a w
-  pub unit-is : UnitOf a w unit
-  pub written : pairsAsWritten (a .positionAt w) ≡ true
-
--- Row w as it is read to be looked at again.
-pub record RowRead (a : Account) (w : ℕ) (p : Position) (unit : ℕ) : Type 0 where
-  pub position-is : p ≡ a .positionAt w
-  pub unit-is : UnitOf a w unit
-  pub written : pairsAsWritten (a .positionAt w) ≡ true
+pub record Reading (a : Account) (w : Written) : Type 0 where
+  pub terms-is : w .terms ≡ normal (a .positionAt (w .row))
+  pub series-is : w .series ≡ seriesOfRow a (w .row)
+  pub unit-is : w .unit ≡ unitMargin (seriesOfRow a (w .row)) (a .positionAt (w .row))
+  pub written : pairsAsWritten (a .positionAt (w .row)) ≡ true
 
 -- Rows w and h have all that mayPair asks before the margins are compared.
 abbrev pub meet : Position → Position → Bool
@@ -54,19 +55,21 @@ meet w h =
 abbrev pub Meets : Account → ℕ → ℕ → Type 0
 Meets a w h = meet (a .positionAt w) (a .positionAt h) ≡ true
 
--- The links of both lanes.
-pub record BothLinks (a : Account) (links : List ℕ) : Type 0 where
-  pub room : 768 ≤ length links
-  pub up : Links a 256 links
-  pub down : Links a 512 links
+-- The spread's unit of written row w and held row h.
+abbrev pub spreadAt : Account → ℕ → ℕ → ℕ
+spreadAt a w h = spreadUnit (unitSpread (seriesOfRow a w) (a .positionAt h) (a .positionAt w))
+
+-- What the question about rows w and h answers: a number below the written unit margin exactly where they may pair, and then
+-- the spread's unit.
+pub record Answered (a : Account) (w h unit charge : ℕ) : Type 0 where
+  pub yes : charge < unit → (mayOf a w h ≡ true) × (charge ≡ spreadAt a w h)
+  pub no : unit ≤ charge → mayOf a w h ≡ true → ⊥
 
 -- Rows w and h may pair, and h has contracts left: the written row's own contracts do not count here, since the next row
 -- of its line may take its place.
-abbrev pub openNow : Account → List ℕ → ℕ → ℕ → Bool
-openNow a left w h = mayOf a w h && ltb 0 (nth left h)
-
-abbrev pub Open : Account → List ℕ → ℕ → ℕ → Type 0
-Open a left w h = openNow a left w h ≡ true
+pub record Open (a : Account) (left : List ℕ) (w h : ℕ) : Type 0 where
+  pub may-pair : mayOf a w h ≡ true
+  pub held-left : 1 ≤ nth left h
 
 abbrev pub Shut : Account → List ℕ → ℕ → Type 0
 Shut a left w = (h : ℕ) → h < a .positions → Open a left w h → ⊥
@@ -79,152 +82,92 @@ pub record Cursor (a : Account) (left : List ℕ) (o w u : ℕ) : Type 0 where
   pub row : u < top a o w → u % 256 < a .positions
   pub is-key : u < top a o w → key a o (u % 256) ≡ u
 
--- A cursor that stands at a row that may pair with w.
-pub record AtPair (a : Account) (left : List ℕ) (o w u : ℕ) : Type 0 where
-  pub cursor : Cursor a left o w u
-  pub may-pair : u < top a o w → mayOf a w (u % 256) ≡ true
-
--- A cursor that stands at an open pair.
-pub record AtOpen (a : Account) (left : List ℕ) (o w u : ℕ) : Type 0 where
-  pub cursor : Cursor a left o w u
-  pub is-open : u < top a o w → Open a left w (u % 256)
+-- The cursors of row w in both lanes.
+pub record Places (a : Account) (left : List ℕ) (w u d : ℕ) : Type 0 where
+  pub up : Cursor a left upLane w u
+  pub down : Cursor a left downLane w d
+  pub written : pairsAsWritten (a .positionAt w) ≡ true
 
 -- The distance of a cursor c: strike difference and held row in one number.
 abbrev pub distanceTo : ℕ → ℕ → ℕ → ℕ
 distanceTo c f t = cond (ltb c t) (c - f) none
 
+abbrev pub distance : Account → ℕ → ℕ → ℕ → ℕ
+distance a o w u = distanceTo u (from a o w) (top a o w)
+
 -- The rank from the written row and the lesser distance.
 abbrev pub rankFrom : ℕ → ℕ → ℕ
-rankFrom w m = cond (ltb m none) (m / 256 * 65_536 + w * 256 + m % 256) idle
+rankFrom w m = m / 256 * 65_536 + w * 256 + m % 256
 
--- The rank r of row w: at most that of each open pair of the row, and that of a pair of the row that may be made; or
--- above none, and then no pair of the row is open.
+-- The rank r of row w: at most that of each open pair of the row, and that of the row and a held row; or above none, and
+-- then no pair of the row is open.
 pub record Ranked (a : Account) (left : List ℕ) (w r : ℕ) : Type 0 where
   pub lowest : r < none → (h : ℕ) → h < a .positions → Open a left w h → r ≤ rank (bookOf a) w h
   pub row : r < none → r % 256 < a .positions
-  pub may-pair : r < none → mayOf a w (r % 256) ≡ true
   pub is-rank : r < none → r ≡ rank (bookOf a) w (r % 256)
   pub shut : none ≤ r → Shut a left w
   pub above : none ≤ r → none < r
 
--- The places and the unit margin that row w goes on from.
-pub record Places (a : Account) (left : List ℕ) (w : ℕ) (t : Standing) : Type 0 where
-  pub up : AtPair a left 256 w (t .up)
-  pub down : AtPair a left 512 w (t .down)
-  pub unit : UnitOf a w (t .unit)
-  pub written : pairsAsWritten (a .positionAt w) ≡ true
+-- The rank that two cursors of row w give.
+abbrev pub rankAt : Account → ℕ → ℕ → ℕ → ℕ
+rankAt a w u d = rankFrom w (min (distance a upLane w u) (distance a downLane w d))
 
--- What is kept of row w.
+-- The pair of row w and held row h was asked about: they may pair, and this is their spread's unit.
+pub record Told (a : Account) (w h spread : ℕ) : Type 0 where
+  pub may-pair : mayOf a w h ≡ true
+  pub spread-is : spread ≡ spreadAt a w h
+
+-- What is kept of row w: its cursors, the rank that they give, and the spread's unit of the pair of that rank; none where
+-- that pair was not asked about.
 pub record Kept (a : Account) (left : List ℕ) (w : ℕ) (t : Standing) : Type 0 where
   pub ranked : Ranked a left w (t .rank)
-  pub places : t .rank < none → Places a left w t
+  pub told : t .rank < none → t .spread < none → Told a w (t .rank % 256) (t .spread)
+  pub places : t .rank < none → Places a left w (t .up) (t .down)
+  pub rank-at : t .rank < none → t .rank ≡ rankAt a w (t .up) (t .down)
 
 -- The held row of the rank has contracts left.
 abbrev pub Live : List ℕ → ℕ → Type 0
 Live left r = r < none → 1 ≤ nth left (r % 256)
 
--- Written rows of the same terms: what the pairing looks at is the same.
-pub record Alike (a : Account) (v w : ℕ) : Type 0 where
-  pub may : (h : ℕ) → mayOf a v h ≡ mayOf a w h
-  pub gap : (h : ℕ) → gapOf a v h ≡ gapOf a w h
-  pub unit : unitMargin (seriesOfRow a v) (a .positionAt v) ≡ unitMargin (seriesOfRow a w) (a .positionAt w)
-  pub written : pairsAsWritten (a .positionAt w) ≡ true
-  pub starts : (o : ℕ) → start a o v ≡ start a o w
-  pub tops : (o : ℕ) → top a o v ≡ top a o w
+-- Row w as it stands after a look from cursors u and d on.
+pub record Found (a : Account) (left : List ℕ) (w u d : ℕ) (t : Standing) : Type 0 where
+  pub kept : Kept a left w t
+  pub live : Live left (t .rank)
+  pub later-up : u ≤ t .up
+  pub later-down : d ≤ t .down
 
--- Written rows of the same terms stand in line: `next` has the row after row v, or a number from 256 on.
-pub record After (a : Account) (v w : ℕ) : Type 0 where
-  pub later : v < w
-  pub row : w < a .positions
-  pub alike : Alike a v w
+-- The pair of the rank was asked about.
+abbrev pub Answer : Standing → Type 0
+Answer t = t .rank < none → t .spread < none
 
-abbrev pub Lines : Account → List ℕ → Type 0
-Lines a next = (v : ℕ) → v < a .positions → nth next v < 256 → After a v (nth next v)
+-- What the question about a written row and a held row asks.
+pub record Asked (b : List ℕ) (l : Layout) (w : Written) (h : ℕ) : Type 0 where
+  pub file : Known b l
+  pub held : h < l .positions
+  pub reading : Reading (accountOf b l) w
+  pub meets : Meets (accountOf b l) (w .row) h
 
--- What stands for row w: its rank is leaf w of the tree, its places and its unit margin stand beside it.
-abbrev pub standing : List ℕ → List ℕ → ℕ → Standing
-standing tree places w =
-    record {
-      rank = leaf tree w;
-      up = nth places w;
-      down = nth places (256 + w);
-      unit = nth places (512 + w);
-    }
+-- What passing over spent rows asks: a cursor of row w in a lane, and the row's top there.
+pub record SkipAsked (b : List ℕ) (l : Layout) (left table : List ℕ) (o w u t : ℕ) : Type 0 where
+  pub row : Row b l left table w
+  pub room : o + mostPositions ≤ length table
+  pub links : Links (accountOf b l) o table
+  pub cursor : Cursor (accountOf b l) left o w u
+  pub top-is : t ≡ top (accountOf b l) o w
 
--- The places and the unit margin of row w put, the others as they were.
-pub record PlacesPut (old new : List ℕ) (w : ℕ) (t : Standing) : Type 0 where
-  pub up : nth new w ≡ t .up
-  pub down : nth new (256 + w) ≡ t .down
-  pub unit : nth new (512 + w) ≡ t .unit
-  pub others : (v : ℕ) → v < 256 → (v ≡ w → ⊥)
-      → (nth new v ≡ nth old v) × (nth new (256 + v) ≡ nth old (256 + v)) × (nth new (512 + v) ≡ nth old (512 + v))
+-- A cursor from u on that stands at a row with contracts left.
+pub record Skipped (a : Account) (left : List ℕ) (o w u v : ℕ) : Type 0 where
+  pub cursor : Cursor a left o w v
+  pub live : v < top a o w → 1 ≤ nth left (v % 256)
+  pub later : u ≤ v
 
--- Row w waits for a row before it in line, which is not spent.
-abbrev pub Waits : Account → List ℕ → List ℕ → ℕ → Type 0
-Waits a next tree w = (v : ℕ) × (v < a .positions) × (nth next v ≡ w) × (leaf tree v ≡ none → ⊥)
+-- What a search asks: the row as it is read, and its cursors.
+pub record SearchAsked (b : List ℕ) (l : Layout) (left table : List ℕ) (w : Written) (up down : ℕ) : Type 0 where
+  pub row : Row b l left table (w .row)
+  pub reading : Reading (accountOf b l) w
+  pub places : Places (accountOf b l) left (w .row) up down
 
--- The leaves: below none a row's rank; none a spent row; above none a row without open pairs, or one that waits. The rows
--- from n on are not ranked yet, and of row x it is not said that it waits.
-pub record Leaves (a : Account) (left next : List ℕ) (n x : ℕ) (tree places : List ℕ) : Type 0 where
-  pub kept : (w : ℕ) → w < a .positions → leaf tree w < none → Kept a left w (standing tree places w)
-  pub spent : (w : ℕ) → w < n → leaf tree w ≡ none → nth left w ≡ 0
-  pub waits : (w : ℕ) → w < a .positions → (w ≡ x → ⊥) → none < leaf tree w → Shut a left w ⊎ Waits a next tree w
-  pub fresh : (w : ℕ) → n ≤ w → w < 256 → none ≤ leaf tree w
-  pub tree-room : 512 ≤ length tree
-  pub places-room : 768 ≤ length places
-
--- Every row stands, and the tree over the leaves is right.
-pub record Standings (a : Account) (left next tree places : List ℕ) : Type 0 where
-  pub leaves : Leaves a left next (a .positions) 256 tree places
-  pub right : Tree tree
-
--- The next row of the beginning.
-pub record Begun (a : Account) (left next : List ℕ) (n : ℕ) (tree places : List ℕ) : Type 0 where
-  pub leaves : Leaves a left next (n + 1) 256 tree places
-  pub some : leaf tree n ≡ none → ⊥
-
--- Row w ranked from given places: its leaf live, the other leaves as they were.
-pub record RowPut (a : Account) (left next old tree places : List ℕ) (w : ℕ) : Type 0 where
-  pub leaves : Leaves a left next (a .positions) 256 tree places
-  pub live : Live left (leaf tree w)
-  pub put : LeafPut old tree w (leaf tree w)
-
--- Row w has a rank, and one of its two rows is spent.
-pub record Stale (a : Account) (left tree : List ℕ) (w : ℕ) : Type 0 where
-  pub row : w < a .positions
-  pub some : leaf tree w < none
-  pub spent : (1 ≤ nth left w) × (1 ≤ nth left (leaf tree w % 256)) → ⊥
-
--- Each leaf but w's is as it was, or it is above what w's was.
-abbrev pub Lifted : List ℕ → List ℕ → ℕ → Type 0
-Lifted old tree w = (x : ℕ) → x < 256 → ((x ≡ w → ⊥) × (leaf tree x ≡ leaf old x)) ⊎ (leaf old w < leaf tree x)
-
--- Row w renewed.
-pub record Renewed (a : Account) (left next old tree places : List ℕ) (w : ℕ) : Type 0 where
-  pub leaves : Leaves a left next (a .positions) 256 tree places
-  pub lifted : Lifted old tree w
-
--- Row w looked at in a pass: renewed if it is stale.
-pub record Looked (a : Account) (left next old tree places : List ℕ) (w : ℕ) : Type 0 where
-  pub leaves : Leaves a left next (a .positions) 256 tree places
-  pub each : (x : ℕ) → x < 256 → ((x ≡ w → Stale a left old w → ⊥) × (leaf tree x ≡ leaf old x)) ⊎ (leaf old w < leaf tree x)
-
--- The rows before v looked at, where r is the least and row w's: every leaf is above r, but for w's where it comes later.
-abbrev pub LookedTo : List ℕ → ℕ → ℕ → ℕ → Type 0
-LookedTo tree r w v = (x : ℕ) → x < 256 → (r < leaf tree x) ⊎ ((x ≡ w) × (v ≤ w) × (leaf tree w ≡ r))
-
--- The least is stale and has a row.
-pub record StaleLeast (a : Account) (left tree : List ℕ) (w : ℕ) : Type 0 where
-  pub stale : Stale a left tree w
-  pub least : leaf tree w ≡ nth tree 1
-
--- It was renewed: the least rises.
-pub record Raised (a : Account) (left next old tree places : List ℕ) : Type 0 where
-  pub standings : Standings a left next tree places
-  pub rises : nth old 1 < nth tree 1
-
--- The least rank r, with contracts left of both its rows.
-pub record BestRank (a : Account) (left next tree places : List ℕ) (r : ℕ) : Type 0 where
-  pub standings : Standings a left next tree places
-  pub least : r ≡ nth tree 1
-  pub live : r < none → (1 ≤ nth left (r / 256 % 256)) × (1 ≤ nth left (r % 256))
+-- The mark of a row, and a cursor that has reached the row's start.
+pub record DistanceAsked (o x u : ℕ) : Type 0 where
+  pub mark-most : x ≤ last
+  pub reached : u < markTop o x → markFrom o x ≤ u

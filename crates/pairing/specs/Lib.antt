@@ -1,5 +1,4 @@
 -- What the pairing keeps and promises.
-pub mod Keys
-pub mod Tree
 pub mod Cursors
+pub mod Standings
 pub mod Pairing

@@ -1,175 +1,208 @@
-// The place of a written row in a lane: it moves along the links and never back.
-use crate::keys::IDLE;
-use crate::keys::NONE;
-use crate::keys::from_of;
-use crate::keys::top_of;
+// The search of a written row for its nearest pair, from its places in both lanes, which move along the links and never
+// back.
+use crate::Standing;
+use crate::Written;
 use account::lookup::position_at;
 use account::lookup::series_of_position;
+use lanes::DOWN;
+use lanes::UNITS;
+use lanes::UP;
+use lanes::keys::NONE;
+use lanes::keys::mark_from;
+use lanes::keys::mark_top;
+use numbers::smaller;
 use position::quantities::normalised;
 use rules::Layout;
-use rules::Position;
-use rules::Series;
-use rules::Terms;
-use spreads::pair::lowers_margin;
+use spreads::pair::charge_between;
 ghost use Prim.Native.Nat.{_+_, _≤_, _<_};
-ghost use lib.ListN.{length};
-ghost use mathlib.Core.Logic.{_⊎_};
+ghost use mathlib.Core.Bool.{true};
 ghost use mathlib.Core.Path.{_≡_};
-ghost use Rattle.pairing.specs.Cursors.{AtOpen, AtPair, Cursor, Live, Meets, Ranked, Reading, Row, RowRead, distanceTo, openNow, rankFrom};
-ghost use Rattle.pairing.specs.Keys.{Links, none, nth, topOf};
+ghost use Rattle.lanes.specs.Marks.{markFrom, markTop};
+ghost use Rattle.pairing.specs.Cursors.{Answer, Answered, Asked, DistanceAsked, Found, Places, Row, SearchAsked, SkipAsked, Skipped, distanceTo, rankFrom};
 ghost use Rattle.rules.specs.File.{accountOf};
+ghost use Rattle.rules.specs.Limits.{mostPositions};
 
-// Whether written row w, of terms t, may pair with row h of its lane, which has contracts left. Those are looked at first:
-// the rule costs more.
-fn is_open(
-    file: &[u8],
-    l: Layout,
-    left: &[u64],
-    w: usize,
-    t: Terms,
-    s: Series,
-    unit: u64,
-    h: usize,
-) -> bool
-    requires { ⌜ Row (now file) l (now left) w × (h < l .positions) × Reading (accountOf (now file) l) w t s unit × Meets (accountOf (now file) l) w h ⌝ }
-    ensures { λ x. ⌜ x ≡ openNow (accountOf (now (file .entry)) l) (now (left .entry)) w h ⌝ }
+// The leaf of a row that is not spent and has no rank.
+pub const IDLE: u64 = 1_152_921_504_606_846_977;
+
+// What written row w is charged a contract beside held row h: below its unit margin exactly where they may pair.
+fn charge_at(file: &[u8], l: Layout, w: Written, h: usize) -> u64
+    requires { ⌜ Asked (now file) l w h ⌝ }
+    ensures { λ r. ⌜ Answered (accountOf (now (file .entry)) l) (w .row) h (w .unit) r ⌝ }
 {
-    if left[h] == 0 {
-        return false;
-    }
     let held = position_at(file, l, h);
-    lowers_margin(s, t, normalised(held), unit)
+    let terms = w.terms;
+    let series = w.series;
+    charge_between(series, terms, normalised(held), w.unit)
 }
 
-// From a cursor on, the first row that makes a pair now. The caller has read the row and has its top.
-pub fn seek(
+// From a cursor on, the first row with contracts left.
+fn skip_spent(
     file: &[u8],
     l: Layout,
     left: &[u64],
-    links: &[u64],
+    table: &[u64],
     o: usize,
     w: usize,
-    t: Terms,
-    s: Series,
-    unit: u64,
     first: u64,
     top: u64,
 ) -> u64
-    requires { ⌜ Row (now file) l (now left) w × Reading (accountOf (now file) l) w t s unit × (o + 256 ≤ length (now links)) × Links (accountOf (now file) l) o (now links) × Cursor (accountOf (now file) l) (now left) o w first × (top ≡ topOf o (accountOf (now file) l .positionAt w)) ⌝ }
-    ensures { λ u. ⌜ AtOpen (accountOf (now (file .entry)) l) (now (left .entry)) o w u ⌝ }
+    requires { ⌜ SkipAsked (now file) l (now left) (now table) o w first top ⌝ }
+    ensures { λ u. ⌜ Skipped (accountOf (now (file .entry)) l) (now (left .entry)) o w first u ⌝ }
 {
     let mut u = first;
     while u < top {
         let h = (u % 256) as usize;
-        if is_open(file, l, left, w, t, s, unit, h) {
+        if 0 < left[h] {
             return u;
         }
-        u = links[o + h];
+        u = table[o + h];
     }
     u
 }
 
-// The row's series is read, and its terms are taken, only where a cursor moves.
-fn search(
-    file: &[u8],
-    l: Layout,
-    left: &[u64],
-    links: &[u64],
-    o: usize,
-    w: usize,
-    p: Position,
-    unit: u64,
-    first: u64,
-    top: u64,
-) -> u64
-    requires { ⌜ Row (now file) l (now left) w × RowRead (accountOf (now file) l) w p unit × (o + 256 ≤ length (now links)) × Links (accountOf (now file) l) o (now links) × Cursor (accountOf (now file) l) (now left) o w first × (top ≡ topOf o (accountOf (now file) l .positionAt w)) ⌝ }
-    ensures { λ u. ⌜ AtOpen (accountOf (now (file .entry)) l) (now (left .entry)) o w u ⌝ }
+// The distance of a cursor from the start of a row of mark x in lane o: strike difference and held row in one number.
+fn distance_in(o: usize, x: u64, u: u64) -> u64
+    requires { ⌜ DistanceAsked o x u ⌝ }
+    ensures { λ r. ⌜ r ≡ distanceTo u (markFrom o x) (markTop o x) ⌝ }
 {
-    let s = series_of_position(file, l, p);
-    seek(
-        file,
-        l,
-        left,
-        links,
-        o,
-        w,
-        normalised(p),
-        s,
-        unit,
-        first,
-        top,
-    )
-}
-
-// A cursor at a row that may pair: it stays while that row has contracts left, else it moves on.
-pub fn look_again(
-    file: &[u8],
-    l: Layout,
-    left: &[u64],
-    links: &[u64],
-    o: usize,
-    w: usize,
-    p: Position,
-    unit: u64,
-    u: u64,
-) -> u64
-    requires { ⌜ Row (now file) l (now left) w × RowRead (accountOf (now file) l) w p unit × (o + 256 ≤ length (now links)) × Links (accountOf (now file) l) o (now links) × AtPair (accountOf (now file) l) (now left) o w u ⌝ }
-    ensures { λ x. ⌜ AtOpen (accountOf (now (file .entry)) l) (now (left .entry)) o w x ⌝ }
-{
-    let top = top_of(o, p);
-    if top <= u {
-        return u;
-    }
-    let h = (u % 256) as usize;
-    if 0 < left[h] {
-        return u;
-    }
-    search(file, l, left, links, o, w, p, unit, links[o + h], top)
-}
-
-fn distance_to(c: u64, f: u64, t: u64) -> u64
-    requires { ⌜ (c < t → f ≤ c) ⌝ }
-    ensures { λ r. ⌜ r ≡ distanceTo c f t ⌝ }
-{
-    if c < t {
-        return c - f;
+    if u < mark_top(o, x) {
+        return u - mark_from(o, x);
     }
     NONE
 }
 
-fn lesser(x: u64, y: u64) -> u64
-    ensures { λ r. ⌜ (r ≤ x) × (r ≤ y) × ((r ≡ x) ⊎ (r ≡ y)) ⌝ }
-{
-    if x <= y {
-        return x;
-    }
-    y
-}
-
 fn rank_from(w: usize, m: u64) -> u64
-    requires { ⌜ (w < 256) × (m < none → m ≤ 4_000_000_000_000) ⌝ }
+    requires { ⌜ (w < mostPositions) × (m ≤ 4_000_000_000_000) ⌝ }
     ensures { λ r. ⌜ r ≡ rankFrom w m ⌝ }
 {
-    if m < NONE {
-        return m / 256 * 65_536 + (w as u64) * 256 + m % 256;
-    }
-    IDLE
+    m / 256 * 65_536 + (w as u64) * 256 + m % 256
 }
 
-// The rank of a row, read as p, from its two cursors.
-pub fn row_rank(
+// The nearest pair of a written row from its cursors on: of the nearer row with contracts left the question is asked, and
+// where the answer is no its cursor moves on.
+fn nearest(
     file: &[u8],
     l: Layout,
     left: &[u64],
+    table: &[u64],
+    w: Written,
+    first: u64,
+    second: u64,
+) -> Standing
+    requires { ⌜ SearchAsked (now file) l (now left) (now table) w first second ⌝ }
+    ensures { λ t. ⌜ Found (accountOf (now (file .entry)) l) (now (left .entry)) (w .row) first second t × Answer t ⌝ }
+{
+    let row = w.row;
+    let mark = table[row];
+    let mut up = first;
+    let mut down = second;
+    loop {
+        up = skip_spent(file, l, left, table, UP, row, up, mark_top(UP, mark));
+        down = skip_spent(file, l, left, table, DOWN, row, down, mark_top(DOWN, mark));
+        let x = distance_in(UP, mark, up);
+        let y = distance_in(DOWN, mark, down);
+        let m = smaller(x, y);
+        if NONE <= m {
+            return Standing {
+                rank: IDLE,
+                spread: 0,
+                up,
+                down,
+            };
+        }
+        let h = (m % 256) as usize;
+        let spread = charge_at(file, l, w, h);
+        if spread < w.unit {
+            return Standing {
+                rank: rank_from(row, m),
+                spread,
+                up,
+                down,
+            };
+        }
+        if x <= y {
+            up = table[UP + h];
+            continue;
+        }
+        down = table[DOWN + h];
+    }
+}
+
+// The same of row w, which is read once.
+pub fn search(
+    file: &[u8],
+    l: Layout,
+    left: &[u64],
+    table: &[u64],
     w: usize,
-    p: Position,
     up: u64,
     down: u64,
-) -> u64
-    requires { ⌜ Row (now file) l (now left) w × (p ≡ accountOf (now file) l .positionAt w) × AtOpen (accountOf (now file) l) (now left) 256 w up × AtOpen (accountOf (now file) l) (now left) 512 w down ⌝ }
-    ensures { λ r. ⌜ Ranked (accountOf (now (file .entry)) l) (now (left .entry)) w r × Live (now (left .entry)) r ⌝ }
+) -> Standing
+    requires { ⌜ Row (now file) l (now left) (now table) w × Places (accountOf (now file) l) (now left) w up down ⌝ }
+    ensures { λ t. ⌜ Found (accountOf (now (file .entry)) l) (now (left .entry)) w up down t × Answer t ⌝ }
 {
-    let x = distance_to(up, from_of(256, p), top_of(256, p));
-    let y = distance_to(down, from_of(512, p), top_of(512, p));
-    rank_from(w, lesser(x, y))
+    let p = position_at(file, l, w);
+    let written = Written {
+        row: w,
+        terms: normalised(p),
+        series: series_of_position(file, l, p),
+        unit: table[UNITS + w],
+    };
+    nearest(file, l, left, table, written, up, down)
+}
+
+// The rank that row w's cursors give once they stand at rows with contracts left: no pair is asked about.
+fn lower_bound(
+    file: &[u8],
+    l: Layout,
+    left: &[u64],
+    table: &[u64],
+    w: usize,
+    first: u64,
+    second: u64,
+) -> Standing
+    requires { ⌜ Row (now file) l (now left) (now table) w × Places (accountOf (now file) l) (now left) w first second ⌝ }
+    ensures { λ t. ⌜ Found (accountOf (now (file .entry)) l) (now (left .entry)) w first second t ⌝ }
+{
+    let mark = table[w];
+    let up = skip_spent(file, l, left, table, UP, w, first, mark_top(UP, mark));
+    let down = skip_spent(file, l, left, table, DOWN, w, second, mark_top(DOWN, mark));
+    let x = distance_in(UP, mark, up);
+    let y = distance_in(DOWN, mark, down);
+    let m = smaller(x, y);
+    if NONE <= m {
+        return Standing {
+            rank: IDLE,
+            spread: 0,
+            up,
+            down,
+        };
+    }
+    Standing {
+        rank: rank_from(w, m),
+        spread: NONE,
+        up,
+        down,
+    }
+}
+
+// Row w looked at from its cursors on: its nearest pair, or if it is not to ask a lower bound.
+pub fn look(
+    file: &[u8],
+    l: Layout,
+    left: &[u64],
+    table: &[u64],
+    w: usize,
+    up: u64,
+    down: u64,
+    ask: bool,
+) -> Standing
+    requires { ⌜ Row (now file) l (now left) (now table) w × Places (accountOf (now file) l) (now left) w up down ⌝ }
+    ensures { λ t. ⌜ Found (accountOf (now (file .entry)) l) (now (left .entry)) w up down t × (ask ≡ true → Answer t) ⌝ }
+{
+    if ask {
+        return search(file, l, left, table, w, up, down);
+    }
+    lower_bound(file, l, left, table, w, up, down)
 }

@@ -6,24 +6,20 @@ use numbers::amount;
 use numbers::smaller;
 use rules::Layout;
 use rules::Line;
-use spreads::pair::spread_unit;
 ghost use Prim.Native.Nat.{_≤_, _<_};
-ghost use mathlib.Core.Bool.{true};
 ghost use mathlib.Core.Path.{_≡_};
 ghost use Rattle.account.specs.Known.{Known};
 ghost use Rattle.pairing.specs.Pairing.{PairAsked, PairWritten};
-ghost use Rattle.rules.specs.File.{accountOf};
-ghost use Rattle.rules.specs.Lines.{spreadAmount};
-ghost use Rattle.rules.specs.Pairs.{mayOf};
+ghost use Rattle.rules.specs.File.{accountOf, seriesOfRow};
+ghost use Rattle.rules.specs.OnePosition.{amountOf};
 
-// The amount of a pair of q contracts: unit × M × q.
-fn pair_amount(file: &[u8], l: Layout, w: usize, h: usize, q: u64) -> u64
-    requires { ⌜ Known (now file) l × (w < l .positions) × (h < l .positions) × (q ≤ 100_000) × (mayOf (accountOf (now file) l) w h ≡ true) ⌝ }
-    ensures { λ r. ⌜ (r ≡ spreadAmount (accountOf (now (file .entry)) l) (record { written = w; held = h; quantity = q })) × (r ≤ 10_000_000_000_000_000) ⌝ }
+// The amount of q contracts of row w at this unit: unit × M × q.
+fn pair_amount(file: &[u8], l: Layout, w: usize, unit: u64, q: u64) -> u64
+    requires { ⌜ Known (now file) l × (w < l .positions) × (unit ≤ 100_000_000_000_000) × (q ≤ 100_000) ⌝ }
+    ensures { λ r. ⌜ (r ≡ amountOf unit (seriesOfRow (accountOf (now (file .entry)) l) w .m) q) × (r ≤ 10_000_000_000_000_000) ⌝ }
 {
     let row = position_row(file, l, w);
     let series = series_row(file, l, row.series as usize);
-    let unit = spread_unit(file, l, w, h);
     amount(unit, series.m, q)
 }
 
@@ -35,14 +31,15 @@ pub fn make_pair(
     k: usize,
     w: usize,
     h: usize,
+    spread: u64,
 ) -> u64
-    requires { ⌜ PairAsked (now file) l (now left) (now numbers) k w h ⌝ }
+    requires { ⌜ PairAsked (now file) l (now left) (now numbers) k w h spread ⌝ }
     ensures { λ r. ⌜ PairWritten (accountOf (now (file .entry)) l) k w h (now (left .entry)) (now (numbers .entry)) (now (left .exit)) (now (numbers .exit)) r ⌝ }
 {
     let x = left[w];
     let y = left[h];
     let q = smaller(x, y);
-    let money = pair_amount(file, l, w, h, q);
+    let money = pair_amount(file, l, w, spread, q);
     left[w] = x - q;
     left[h] = y - q;
     let line = Line {

@@ -1,146 +1,53 @@
 // What is kept of each row, looked at again where one of its rows is spent.
+use crate::DOWN_PLACES;
+use crate::SPREADS;
 use crate::Standing;
-use crate::cursors::look_again;
-use crate::cursors::row_rank;
-use crate::cursors::seek;
-use crate::keys::IDLE;
-use crate::keys::NONE;
-use crate::keys::pairs_as_written;
-use crate::keys::top_of;
-use crate::tree::fill;
-use crate::tree::put_leaf;
-use account::lookup::position_at;
-use account::lookup::series_of_position;
-use position::margin::unit_margin;
-use position::quantities::normalised;
+use crate::cursors::IDLE;
+use crate::cursors::look;
+use crate::cursors::search;
+use lanes::DOWN;
+use lanes::LINES;
+use lanes::UP;
+use lanes::keys::NONE;
 use rules::Layout;
-use rules::Position;
-use rules::Series;
+use tree::fill;
+use tree::put_leaf;
 ghost use Prim.Native.Nat.{_+_, _≤_, _<_};
 ghost use lib.ListN.{length};
 ghost use lib.Dec.{ltb};
 ghost use mathlib.Core.Bool.{true, _&&_};
 ghost use mathlib.Core.Path.{_≡_};
-ghost use Rattle.pairing.specs.Cursors.{Begun, BestRank, BothLinks, Kept, Leaves, Lines, Live, Looked, Places, PlacesPut, Raised, Renewed, Row, RowPut, RowRead, Stale, StaleLeast, Standings, standing};
-ghost use Rattle.pairing.specs.Tree.{Tree};
-ghost use Rattle.account.specs.Known.{Known};
-ghost use Rattle.pairing.specs.Keys.{nth};
+ghost use Rattle.lanes.specs.Keys.{none};
+ghost use Rattle.numbers.specs.Lists.{nth};
+ghost use Rattle.pairing.specs.Cursors.{Kept, Row};
+ghost use Rattle.pairing.specs.Standings.{BeginAllAsked, BeginAsked, Begun, BestRank, LeastAsked, Leaves, LookAsked, Looked, Nearer, NextAsked, PlacesPut, Raised, RankAsked, RenewAsked, Renewed, RowPut, RowsAsked, StaleAsked, Standings, downColumn, placesSize, spreadColumn};
 ghost use Rattle.rules.specs.File.{accountOf};
-
-// Row w at the start, read as p, of series s: its places in both lanes.
-fn first_places(
-    file: &[u8],
-    l: Layout,
-    left: &[u64],
-    links: &[u64],
-    w: usize,
-    p: Position,
-    s: Series,
-    unit: u64,
-) -> Standing
-    requires { ⌜ Row (now file) l (now left) w × BothLinks (accountOf (now file) l) (now links) × RowRead (accountOf (now file) l) w p unit × (s ≡ accountOf (now file) l .seriesAt (p .series)) ⌝ }
-    ensures { λ t. ⌜ Kept (accountOf (now (file .entry)) l) (now (left .entry)) w t ⌝ }
-{
-    let t = normalised(p);
-    let top = top_of(256, p);
-    let up = seek(
-        file,
-        l,
-        left,
-        links,
-        256,
-        w,
-        t,
-        s,
-        unit,
-        links[256 + w],
-        top,
-    );
-    let top = top_of(512, p);
-    let down = seek(
-        file,
-        l,
-        left,
-        links,
-        512,
-        w,
-        t,
-        s,
-        unit,
-        links[512 + w],
-        top,
-    );
-    let rank = row_rank(file, l, left, w, p, up, down);
-    Standing {
-        rank,
-        up,
-        down,
-        unit,
-    }
-}
+ghost use Rattle.rules.specs.Limits.{mostPositions};
+ghost use Rattle.tree.specs.Tree.{Tree};
 
 // Row w at the start.
-fn first_standing(file: &[u8], l: Layout, left: &[u64], links: &[u64], w: usize) -> Standing
-    requires { ⌜ Row (now file) l (now left) w × BothLinks (accountOf (now file) l) (now links) ⌝ }
+fn first_standing(file: &[u8], l: Layout, left: &[u64], table: &[u64], w: usize) -> Standing
+    requires { ⌜ Row (now file) l (now left) (now table) w ⌝ }
     ensures { λ t. ⌜ Kept (accountOf (now (file .entry)) l) (now (left .entry)) w t ⌝ }
 {
-    let p = position_at(file, l, w);
-    if !pairs_as_written(p) {
-        return Standing {
-            rank: IDLE,
-            up: 0,
-            down: 0,
-            unit: 0,
-        };
+    if table[w] % 256 == 1 {
+        return search(file, l, left, table, w, table[UP + w], table[DOWN + w]);
     }
-    let s = series_of_position(file, l, p);
-    first_places(file, l, left, links, w, p, s, unit_margin(s, p))
-}
-
-// Row w looked at again, from the places in t.
-fn next_standing(
-    file: &[u8],
-    l: Layout,
-    left: &[u64],
-    links: &[u64],
-    w: usize,
-    t: Standing,
-) -> Standing
-    requires { ⌜ Row (now file) l (now left) w × BothLinks (accountOf (now file) l) (now links) × Places (accountOf (now file) l) (now left) w t ⌝ }
-    ensures { λ r. ⌜ Kept (accountOf (now (file .entry)) l) (now (left .entry)) w r × Live (now (left .entry)) (r .rank) ⌝ }
-{
-    let unit = t.unit;
-    let p = position_at(file, l, w);
-    let up = look_again(file, l, left, links, 256, w, p, unit, t.up);
-    let down = look_again(file, l, left, links, 512, w, p, unit, t.down);
-    let rank = row_rank(file, l, left, w, p, up, down);
     Standing {
-        rank,
-        up,
-        down,
-        unit,
-    }
-}
-
-fn standing_at(tree: &[u64], places: &[u64], w: usize) -> Standing
-    requires { ⌜ (512 ≤ length (now tree)) × (768 ≤ length (now places)) × (w < 256) ⌝ }
-    ensures { λ t. ⌜ t ≡ standing (now (tree .entry)) (now (places .entry)) w ⌝ }
-{
-    Standing {
-        rank: tree[256 + w],
-        up: places[w],
-        down: places[256 + w],
-        unit: places[512 + w],
+        rank: IDLE,
+        spread: 0,
+        up: 0,
+        down: 0,
     }
 }
 
 fn put_places(places: &mut [u64], w: usize, t: Standing)
-    requires { ⌜ (768 ≤ length (now places)) × (w < 256) ⌝ }
+    requires { ⌜ (placesSize ≤ length (now places)) × (w < mostPositions) ⌝ }
     ensures { λ _. ⌜ PlacesPut (now (places .entry)) (now (places .exit)) w t ⌝ }
 {
     places[w] = t.up;
-    places[256 + w] = t.down;
-    places[512 + w] = t.unit;
+    places[DOWN_PLACES + w] = t.down;
+    places[SPREADS + w] = t.spread;
 }
 
 // Row w at the start, unless it waits.
@@ -148,21 +55,20 @@ fn begin_row(
     file: &[u8],
     l: Layout,
     left: &[u64],
-    links: &[u64],
-    next: &[u64],
+    table: &[u64],
     tree: &mut [u64],
     places: &mut [u64],
     w: usize,
 )
-    requires { ⌜ Row (now file) l (now left) w × BothLinks (accountOf (now file) l) (now links) × Leaves (accountOf (now file) l) (now left) (now next) w 256 (now tree) (now places) ⌝ }
-    ensures { λ _. ⌜ Begun (accountOf (now (file .entry)) l) (now (left .entry)) (now (next .entry)) w (now (tree .exit)) (now (places .exit)) ⌝ }
+    requires { ⌜ BeginAsked (now file) l (now left) (now table) (now tree) (now places) w ⌝ }
+    ensures { λ _. ⌜ Begun (accountOf (now (file .entry)) l) (now (left .entry)) (now (table .entry)) w (now (tree .exit)) (now (places .exit)) ⌝ }
 {
-    if NONE < tree[256 + w] {
+    if NONE < tree[l.positions + w] {
         return;
     }
-    let t = first_standing(file, l, left, links, w);
+    let t = first_standing(file, l, left, table, w);
     put_places(places, w, t);
-    tree[256 + w] = t.rank;
+    tree[l.positions + w] = t.rank;
 }
 
 // The row after row w in line waits.
@@ -170,17 +76,17 @@ fn mark_next(
     file: &[u8],
     l: Layout,
     left: &[u64],
-    next: &[u64],
+    table: &[u64],
     tree: &mut [u64],
     places: &[u64],
     w: usize,
 )
-    requires { ⌜ Row (now file) l (now left) w × (256 ≤ length (now next)) × Lines (accountOf (now file) l) (now next) × Begun (accountOf (now file) l) (now left) (now next) w (now tree) (now places) ⌝ }
-    ensures { λ _. ⌜ Leaves (accountOf (now (file .entry)) l) (now (left .entry)) (now (next .entry)) (w + 1) 256 (now (tree .exit)) (now (places .entry)) ⌝ }
+    requires { ⌜ NextAsked (now file) l (now left) (now table) (now tree) (now places) w ⌝ }
+    ensures { λ _. ⌜ Leaves (accountOf (now (file .entry)) l) (now (left .entry)) (now (table .entry)) (w + 1) mostPositions (now (tree .exit)) (now (places .entry)) ⌝ }
 {
-    let u = next[w];
-    if u < 256 {
-        tree[256 + (u as usize)] = IDLE;
+    let u = table[LINES + w];
+    if 0 < u {
+        tree[l.positions + (u as usize)] = IDLE;
     }
 }
 
@@ -189,43 +95,51 @@ pub fn begin_rows(
     file: &[u8],
     l: Layout,
     left: &[u64],
-    links: &[u64],
-    next: &[u64],
+    table: &[u64],
     tree: &mut [u64],
     places: &mut [u64],
 )
-    requires { ⌜ Known (now file) l × (l .positions ≤ length (now left)) × BothLinks (accountOf (now file) l) (now links) × (256 ≤ length (now next)) × Lines (accountOf (now file) l) (now next) × Leaves (accountOf (now file) l) (now left) (now next) 0 256 (now tree) (now places) ⌝ }
-    ensures { λ _. ⌜ Standings (accountOf (now (file .entry)) l) (now (left .entry)) (now (next .entry)) (now (tree .exit)) (now (places .exit)) ⌝ }
+    requires { ⌜ BeginAllAsked (now file) l (now left) (now table) (now tree) (now places) ⌝ }
+    ensures { λ _. ⌜ Standings (accountOf (now (file .entry)) l) (now (left .entry)) (now (table .entry)) (now (tree .exit)) (now (places .exit)) ⌝ }
 {
     let p = l.positions;
     let mut w = 0;
     while w < p {
-        begin_row(file, l, left, links, next, tree, places, w);
-        mark_next(file, l, left, next, tree, places, w);
+        begin_row(file, l, left, table, tree, places, w);
+        mark_next(file, l, left, table, tree, places, w);
         w += 1;
     }
-    fill(tree);
+    fill(tree, p);
 }
 
-// Row w ranked, from the places in t.
+// Row w ranked from the places of row v, which is row w itself or the one before it in line. Where the tree is not to be made
+// right above it no pair is asked about either.
 fn rank_row(
     file: &[u8],
     l: Layout,
     left: &[u64],
-    links: &[u64],
-    next: &[u64],
+    table: &[u64],
     tree: &mut [u64],
     places: &mut [u64],
+    v: usize,
     w: usize,
-    t: Standing,
     climb: bool,
 )
-    requires { ⌜ Row (now file) l (now left) w × BothLinks (accountOf (now file) l) (now links) × Leaves (accountOf (now file) l) (now left) (now next) (l .positions) w (now tree) (now places) × Places (accountOf (now file) l) (now left) w t × (climb ≡ true → Tree (now tree)) ⌝ }
-    ensures { λ _. ⌜ RowPut (accountOf (now (file .entry)) l) (now (left .entry)) (now (next .entry)) (now (tree .entry)) (now (tree .exit)) (now (places .exit)) w × (climb ≡ true → Tree (now (tree .exit))) ⌝ }
+    requires { ⌜ RankAsked (now file) l (now left) (now table) (now tree) (now places) v w climb ⌝ }
+    ensures { λ _. ⌜ RowPut (accountOf (now (file .entry)) l) (now (left .entry)) (now (table .entry)) (now (tree .entry)) (now (tree .exit)) (now (places .exit)) w (nth (now (places .entry)) v) (nth (now (places .entry)) (downColumn + v)) climb ⌝ }
 {
-    let r = next_standing(file, l, left, links, w, t);
-    put_places(places, w, r);
-    put_leaf(tree, w, r.rank, climb);
+    let t = look(
+        file,
+        l,
+        left,
+        table,
+        w,
+        places[v],
+        places[DOWN_PLACES + v],
+        climb,
+    );
+    put_places(places, w, t);
+    put_leaf(tree, l.positions, w, t.rank, climb);
 }
 
 // Row w, whose rank is stale, looked at again; if it is spent the next row in its line takes its place.
@@ -233,41 +147,28 @@ fn renew(
     file: &[u8],
     l: Layout,
     left: &[u64],
-    links: &[u64],
-    next: &[u64],
+    table: &[u64],
     tree: &mut [u64],
     places: &mut [u64],
     w: usize,
     climb: bool,
 )
-    requires { ⌜ Row (now file) l (now left) w × BothLinks (accountOf (now file) l) (now links) × (256 ≤ length (now next)) × Lines (accountOf (now file) l) (now next) × Leaves (accountOf (now file) l) (now left) (now next) (l .positions) 256 (now tree) (now places) × Stale (accountOf (now file) l) (now left) (now tree) w × (climb ≡ true → Tree (now tree)) ⌝ }
-    ensures { λ _. ⌜ Renewed (accountOf (now (file .entry)) l) (now (left .entry)) (now (next .entry)) (now (tree .entry)) (now (tree .exit)) (now (places .exit)) w × (climb ≡ true → Tree (now (tree .exit))) ⌝ }
+    requires { ⌜ RenewAsked (now file) l (now left) (now table) (now tree) (now places) w climb ⌝ }
+    ensures { λ _. ⌜ Renewed (accountOf (now (file .entry)) l) (now (left .entry)) (now (table .entry)) (now (tree .entry)) (now (tree .exit)) (now (places .exit)) w × (climb ≡ true → Tree (l .positions) (now (tree .exit))) ⌝ }
 {
-    let t = standing_at(tree, places, w);
     if 0 < left[w] {
-        rank_row(file, l, left, links, next, tree, places, w, t, climb);
+        rank_row(file, l, left, table, tree, places, w, w, climb);
         return;
     }
-    put_leaf(tree, w, NONE, climb);
-    let u = next[w];
-    if u < 256 {
-        rank_row(
-            file,
-            l,
-            left,
-            links,
-            next,
-            tree,
-            places,
-            u as usize,
-            t,
-            climb,
-        );
+    put_leaf(tree, l.positions, w, NONE, climb);
+    let u = table[LINES + w];
+    if 0 < u {
+        rank_row(file, l, left, table, tree, places, w, u as usize, climb);
     }
 }
 
 fn both_left(left: &[u64], w: usize, h: usize) -> bool
-    requires { ⌜ (256 ≤ length (now left)) × (w < 256) × (h < 256) ⌝ }
+    requires { ⌜ (mostPositions ≤ length (now left)) × (w < mostPositions) × (h < mostPositions) ⌝ }
     ensures { λ t. ⌜ t ≡ (ltb 0 (nth (now (left .entry)) w) && ltb 0 (nth (now (left .entry)) h)) ⌝ }
 {
     (0 < left[w]) & (0 < left[h])
@@ -278,16 +179,15 @@ fn look_at(
     file: &[u8],
     l: Layout,
     left: &[u64],
-    links: &[u64],
-    next: &[u64],
+    table: &[u64],
     tree: &mut [u64],
     places: &mut [u64],
     w: usize,
 )
-    requires { ⌜ Row (now file) l (now left) w × (256 ≤ length (now left)) × BothLinks (accountOf (now file) l) (now links) × (256 ≤ length (now next)) × Lines (accountOf (now file) l) (now next) × Leaves (accountOf (now file) l) (now left) (now next) (l .positions) 256 (now tree) (now places) ⌝ }
-    ensures { λ _. ⌜ Looked (accountOf (now (file .entry)) l) (now (left .entry)) (now (next .entry)) (now (tree .entry)) (now (tree .exit)) (now (places .exit)) w ⌝ }
+    requires { ⌜ LookAsked (now file) l (now left) (now table) (now tree) (now places) w ⌝ }
+    ensures { λ _. ⌜ Looked (accountOf (now (file .entry)) l) (now (left .entry)) (now (table .entry)) (now (tree .entry)) (now (tree .exit)) (now (places .exit)) w ⌝ }
 {
-    let r = tree[256 + w];
+    let r = tree[l.positions + w];
     if NONE <= r {
         return;
     }
@@ -295,7 +195,7 @@ fn look_at(
     if both_left(left, w, h) {
         return;
     }
-    renew(file, l, left, links, next, tree, places, w, false);
+    renew(file, l, left, table, tree, places, w, false);
 }
 
 // Every stale row renewed, and the tree filled anew. The least is row w's and stale.
@@ -303,22 +203,21 @@ fn renew_all(
     file: &[u8],
     l: Layout,
     left: &[u64],
-    links: &[u64],
-    next: &[u64],
+    table: &[u64],
     tree: &mut [u64],
     places: &mut [u64],
     w: usize,
 )
-    requires { ⌜ Known (now file) l × (256 ≤ length (now left)) × BothLinks (accountOf (now file) l) (now links) × (256 ≤ length (now next)) × Lines (accountOf (now file) l) (now next) × Standings (accountOf (now file) l) (now left) (now next) (now tree) (now places) × StaleLeast (accountOf (now file) l) (now left) (now tree) w ⌝ }
-    ensures { λ _. ⌜ Raised (accountOf (now (file .entry)) l) (now (left .entry)) (now (next .entry)) (now (tree .entry)) (now (tree .exit)) (now (places .exit)) ⌝ }
+    requires { ⌜ StaleAsked (now file) l (now left) (now table) (now tree) (now places) w ⌝ }
+    ensures { λ _. ⌜ Raised (accountOf (now (file .entry)) l) (now (left .entry)) (now (table .entry)) (now (tree .entry)) (now (tree .exit)) (now (places .exit)) ⌝ }
 {
     let p = l.positions;
     let mut v = 0;
     while v < p {
-        look_at(file, l, left, links, next, tree, places, v);
+        look_at(file, l, left, table, tree, places, v);
         v += 1;
     }
-    fill(tree);
+    fill(tree, p);
 }
 
 // The least is row w's and stale: that row renewed, or after eight times in a row all of them.
@@ -326,46 +225,74 @@ fn renew_some(
     file: &[u8],
     l: Layout,
     left: &[u64],
-    links: &[u64],
-    next: &[u64],
+    table: &[u64],
     tree: &mut [u64],
     places: &mut [u64],
     w: usize,
     times: u32,
 )
-    requires { ⌜ Known (now file) l × (256 ≤ length (now left)) × BothLinks (accountOf (now file) l) (now links) × (256 ≤ length (now next)) × Lines (accountOf (now file) l) (now next) × Standings (accountOf (now file) l) (now left) (now next) (now tree) (now places) × StaleLeast (accountOf (now file) l) (now left) (now tree) w ⌝ }
-    ensures { λ _. ⌜ Raised (accountOf (now (file .entry)) l) (now (left .entry)) (now (next .entry)) (now (tree .entry)) (now (tree .exit)) (now (places .exit)) ⌝ }
+    requires { ⌜ StaleAsked (now file) l (now left) (now table) (now tree) (now places) w ⌝ }
+    ensures { λ _. ⌜ Raised (accountOf (now (file .entry)) l) (now (left .entry)) (now (table .entry)) (now (tree .entry)) (now (tree .exit)) (now (places .exit)) ⌝ }
 {
     if times == 8 {
-        renew_all(file, l, left, links, next, tree, places, w);
+        renew_all(file, l, left, table, tree, places, w);
         return;
     }
-    renew(file, l, left, links, next, tree, places, w, true);
+    renew(file, l, left, table, tree, places, w, true);
 }
 
-// The least rank of all rows. A rank only rises while contracts fall, so that a stale leaf is a lower bound: the least is
-// looked at again until it is live.
+// Whether the pair of rows w and h, w's nearest, has contracts left and was asked about.
+fn is_settled(left: &[u64], places: &[u64], w: usize, h: usize) -> bool
+    requires { ⌜ (mostPositions ≤ length (now left)) × (placesSize ≤ length (now places)) × (w < mostPositions) × (h < mostPositions) ⌝ }
+    ensures { λ t. ⌜ t ≡ (ltb 0 (nth (now (left .entry)) w) && ltb 0 (nth (now (left .entry)) h) && ltb (nth (now (places .entry)) (spreadColumn + w)) none) ⌝ }
+{
+    both_left(left, w, h) & (places[SPREADS + w] < NONE)
+}
+
+// The least, of rows w and h, looked at again: asked about where both rows have contracts left, else renewed.
+fn look_at_least(
+    file: &[u8],
+    l: Layout,
+    left: &[u64],
+    table: &[u64],
+    tree: &mut [u64],
+    places: &mut [u64],
+    w: usize,
+    h: usize,
+    times: u32,
+)
+    requires { ⌜ LeastAsked (now file) l (now left) (now table) (now tree) (now places) w h ⌝ }
+    ensures { λ _. ⌜ Nearer (accountOf (now (file .entry)) l) (now (left .entry)) (now (table .entry)) (now (tree .entry)) (now (places .entry)) (now (tree .exit)) (now (places .exit)) ⌝ }
+{
+    if both_left(left, w, h) {
+        rank_row(file, l, left, table, tree, places, w, w, true);
+        return;
+    }
+    renew_some(file, l, left, table, tree, places, w, times);
+}
+
+// The least rank of all rows. A rank only rises while contracts fall, so that a stale leaf, or one whose pair was not asked
+// about, is a lower bound: the least is looked at again until it is settled.
 pub fn best_rank(
     file: &[u8],
     l: Layout,
     left: &[u64],
-    links: &[u64],
-    next: &[u64],
+    table: &[u64],
     tree: &mut [u64],
     places: &mut [u64],
 ) -> u64
-    requires { ⌜ Known (now file) l × (256 ≤ length (now left)) × BothLinks (accountOf (now file) l) (now links) × (256 ≤ length (now next)) × Lines (accountOf (now file) l) (now next) × Standings (accountOf (now file) l) (now left) (now next) (now tree) (now places) ⌝ }
-    ensures { λ r. ⌜ BestRank (accountOf (now (file .entry)) l) (now (left .entry)) (now (next .entry)) (now (tree .exit)) (now (places .exit)) r ⌝ }
+    requires { ⌜ RowsAsked (now file) l (now left) (now table) (now tree) (now places) ⌝ }
+    ensures { λ r. ⌜ BestRank (accountOf (now (file .entry)) l) (now (left .entry)) (now (table .entry)) (now (tree .exit)) (now (places .exit)) r ⌝ }
 {
     let mut r = tree[1];
     let mut times: u32 = 0;
     while r < NONE {
         let w = (r / 256 % 256) as usize;
         let h = (r % 256) as usize;
-        if both_left(left, w, h) {
+        if is_settled(left, places, w, h) {
             return r;
         }
-        renew_some(file, l, left, links, next, tree, places, w, times);
+        look_at_least(file, l, left, table, tree, places, w, h, times);
         times = (times + 1) % 9;
         r = tree[1];
     }

@@ -1,2 +1,2 @@
 pub mod Picks
-pub mod Rows
+pub mod ChargeLaws

@@ -1,37 +1,47 @@
-use Rattle.pairing.specs.Keys.{nth}
 use Rattle.lines_and_total.proofs.ListingLaws.{row-none, row-one}
 use Rattle.lines_and_total.proofs.left.left_row.Statement.{statement}
 use Rattle.lines_and_total.proofs.left.left_row.Tie as tie
+use Rattle.numbers.specs.Lists.{nth}
 use Rattle.rules.specs.File.{accountOf}
 use borrow.Author.Needs.{needs}
 use denote.Ref.{now}
+use native.Mathlib.Omega.{arith}
 
 mul-q : tie.Need-mul-q
-mul-q c = search needs
+mul-q c = (omega (arith, c .before .before .before .before .pre .row-below, c .before .before .before .before .pre .lefts, c .before .before .before .before .pre .table-room, c .before .before .before .before .pre .file .placed .positions-most))
 
 shared-slice-read-q : tie.Need-shared-slice-read-q
-shared-slice-read-q c = search needs
+shared-slice-read-q c = (omega (arith, c .before .before .before .before .before .pre .row-below, c .before .before .before .before .before .pre .lefts, c .before .before .before .before .before .pre .table-room, c .before .before .before .before .before .pre .file .placed .positions-most))
 
 returns : tie.Need-returns
-returns c = let a = c .before .before .before .before .before .args in row-none (accountOf (now (a .file)) (a .l)) (nth (now (a .left))) (a .row) (now (a .numbers)) (a .t) (c .if1 .taken)
+returns c = row-none (accountOf (now (c .before .before .before .before .before .before .args .file)) (c .before .before .before .before .before .before .args .l)) (nth (now (c .before .before .before .before .before .before .args .left))) (c .before .before .before .before .before .before .args .row) (now (c .before .before .before .before .before .before .args .numbers)) (c .before .before .before .before .before .before .args .t) (c .if1 .taken)
+
+add-left-amount : tie.Need-add-left-amount
+add-left-amount c = (omega (arith, c .before .before .before .before .before .before .pre .row-below, c .before .before .before .before .before .before .pre .lefts, c .before .before .before .before .before .before .pre .table-room, c .before .before .before .before .before .before .pre .file .placed .positions-most))
+
+mul-left-amount : tie.Need-mul-left-amount
+mul-left-amount c = (omega (arith, c .before .before .before .before .before .before .pre .row-below, c .before .before .before .before .before .before .pre .lefts, c .before .before .before .before .before .before .pre .table-room, c .before .before .before .before .before .before .pre .file .placed .positions-most))
+
+shared-slice-read-left-amount : tie.Need-shared-slice-read-left-amount
+shared-slice-read-left-amount c = (omega (arith, c .before .before .before .before .before .before .before .pre .row-below, c .before .before .before .before .before .before .before .pre .lefts, c .before .before .before .before .before .before .before .pre .table-room, c .before .before .before .before .before .before .before .pre .file .placed .positions-most))
 
 left-amount-requires : tie.Need-left-amount-requires
-left-amount-requires c κs = search needs
+left-amount-requires c κs = record { file = c .before .before .before .before .before .before .before .pre .file; row-below = c .before .before .before .before .before .before .before .pre .row-below; unit-is = c .before .before .before .before .before .before .before .pre .units (c .before .before .before .before .before .before .before .args .row) (c .before .before .before .before .before .before .before .pre .row-below); q-most = c .before .before .before .before .before .before .before .pre .left-most }
 
 put-line-requires : tie.Need-put-line-requires
 put-line-requires c κs = search needs
 
-add-t10 : tie.Need-add-t10
-add-t10 c = search needs
+add-t11 : tie.Need-add-t11
+add-t11 c = search needs
 
-add-t12 : tie.Need-add-t12
-add-t12 c = search needs
+add-t13 : tie.Need-add-t13
+add-t13 c = search needs
 
 same-length : tie.Need-same-length
 same-length c = search needs
 
 returns-2 : tie.Need-returns-2
-returns-2 c = let a = c .before .before .before .before .before .before .before .before .before .before .before .before .args in let m = c .before .before .before .before .before .before .left-amount in let n = c .before .before .before .before .put-line in row-one (accountOf (now (a .file)) (a .l)) (nth (now (a .left))) (a .row) (m .result) (now (a .numbers)) (n .last .0) (a .t) (c .before .before .before .before .before .before .before .if1 .left) (m .ensures .0) (m .ensures .1) (n .ensures) (n .kept .0)
+returns-2 c = row-one (accountOf (now (c .before .before .before .before .before .before .before .before .before .before .before .before .before .before .args .file)) (c .before .before .before .before .before .before .before .before .before .before .before .before .before .before .args .l)) (nth (now (c .before .before .before .before .before .before .before .before .before .before .before .before .before .before .args .left))) (c .before .before .before .before .before .before .before .before .before .before .before .before .before .before .args .row) (c .before .before .before .before .before .before .left-amount .result) (now (c .before .before .before .before .before .before .before .before .before .before .before .before .before .before .args .numbers)) (c .before .before .before .before .put-line .last .0) (c .before .before .before .before .before .before .before .before .before .before .before .before .before .before .args .t) (c .before .before .before .before .before .before .before .before .if1 .left) (c .before .before .before .before .before .before .left-amount .ensures .0) (c .before .before .before .before .before .before .left-amount .ensures .1) (c .before .before .before .before .put-line .ensures) (c .before .before .before .before .put-line .kept .0)
 
 pub left-row-spec : {M : Type 1} → statement M
 left-row-spec =
@@ -40,9 +50,12 @@ left-row-spec =
     mul-q
     shared-slice-read-q
     returns
+    add-left-amount
+    mul-left-amount
+    shared-slice-read-left-amount
     left-amount-requires
     put-line-requires
-    add-t10
-    add-t12
+    add-t11
+    add-t13
     same-length
     returns-2)

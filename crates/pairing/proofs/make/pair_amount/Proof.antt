@@ -1,4 +1,4 @@
-use Rattle.pairing.proofs.FileFacts.{row-range, spread-most}
+use Rattle.pairing.proofs.FileFacts.{row-range}
 use Rattle.pairing.proofs.MakeLaws.{amount-is, factor-within}
 use Rattle.pairing.proofs.make.pair_amount.Statement.{statement}
 use Rattle.pairing.proofs.make.pair_amount.Tie as tie
@@ -12,16 +12,13 @@ cast-series-row : tie.Need-cast-series-row
 cast-series-row c = search needs
 
 series-row-requires : tie.Need-series-row-requires
-series-row-requires c κs = let a = c .before .before .before .args in let p = c .before .before .before .pre in (p .0 .placed, row-range (now (a .file)) (a .l) (p .0) (a .w) (c .before .position-row .result) (p .1) (c .before .position-row .ensures) .series-below)
-
-spread-unit-requires : tie.Need-spread-unit-requires
-spread-unit-requires c κs = let p = c .before .before .before .before .pre in (p .0, p .1, p .2)
+series-row-requires c κs = (c .before .before .before .pre .0 .placed, row-range (now (c .before .before .before .args .file)) (c .before .before .before .args .l) (c .before .before .before .pre .0) (c .before .before .before .args .w) (c .before .position-row .result) (c .before .before .before .pre .1) (c .before .position-row .ensures) .series-below)
 
 amount-requires : tie.Need-amount-requires
-amount-requires c κs = let a = c .before .before .before .before .before .args in let p = c .before .before .before .before .before .pre in (rw (c .spread-unit .ensures) (spread-most (now (a .file)) (a .l) (p .0) (a .w) (a .h) (p .1) (p .4)), factor-within (now (a .file)) (a .l) (a .w) (c .before .before .before .position-row .result) (c .before .series-row .result) (p .0) (p .1) (c .before .before .before .position-row .ensures) (c .before .series-row .ensures), p .3)
+amount-requires c κs = (c .before .before .before .before .pre .2, factor-within (now (c .before .before .before .before .args .file)) (c .before .before .before .before .args .l) (c .before .before .before .before .args .w) (c .before .before .position-row .result) (c .series-row .result) (c .before .before .before .before .pre .0) (c .before .before .before .before .pre .1) (c .before .before .position-row .ensures) (c .series-row .ensures), c .before .before .before .before .pre .3)
 
 returns : tie.Need-returns
-returns c = let a = c .before .before .before .before .before .before .args in (amount-is (now (a .file)) (a .l) (a .w) (a .h) (a .q) (c .before .spread-unit .result) (c .amount .result) (c .before .before .before .before .position-row .result) (c .before .before .series-row .result) (c .before .before .before .before .position-row .ensures) (c .before .before .series-row .ensures) (c .before .spread-unit .ensures) (c .amount .ensures .0), c .amount .ensures .1)
+returns c = (amount-is (now (c .before .before .before .before .before .args .file)) (c .before .before .before .before .before .args .l) (c .before .before .before .before .before .args .w) (c .before .before .before .before .before .args .q) (c .before .before .before .before .before .args .unit) (c .amount .result) (c .before .before .before .position-row .result) (c .before .series-row .result) (c .before .before .before .position-row .ensures) (c .before .series-row .ensures) (c .amount .ensures .0), c .amount .ensures .1)
 
 pub pair-amount-spec : {M : Type 1} → statement M
 pair-amount-spec =
@@ -30,6 +27,5 @@ pair-amount-spec =
     position-row-requires
     cast-series-row
     series-row-requires
-    spread-unit-requires
     amount-requires
     returns)

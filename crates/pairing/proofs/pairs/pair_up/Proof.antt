@@ -1,89 +1,65 @@
-use Rattle.pairing.proofs.AlikeLaws.{lines-none}
+use Rattle.pairing.proofs.FileFacts.{some-rows}
 use Rattle.pairing.proofs.StandingLaws.{leaves-none}
 use Rattle.pairing.proofs.pairs.pair_up.Statement.{statement}
 use Rattle.pairing.proofs.pairs.pair_up.Tie as tie
 use Rattle.rules.specs.File.{accountOf}
+use borrow.Author.Needs.{needs}
 use denote.Ref.{now}
-use mathlib.Core.Path.{refl, sym}
 use native.Mathlib.Omega.{arith}
 
-slice-aggregate-fill-lanes : tie.Need-slice-aggregate-fill-lanes
-slice-aggregate-fill-lanes c = refl
+fill-rows-requires : tie.Need-fill-rows-requires
+fill-rows-requires c κs = c .before .before .before .before .before .pre .table-new
 
-slice-aggregate-fill-lanes-2 : tie.Need-slice-aggregate-fill-lanes-2
-slice-aggregate-fill-lanes-2 c = refl
+slice-aggregate-set-leaves : tie.Need-slice-aggregate-set-leaves
+slice-aggregate-set-leaves c = search needs
 
-fill-lanes-requires : tie.Need-fill-lanes-requires
-fill-lanes-requires c κs = ((c .before .before .before .before .before .pre .file), omega arith, omega arith)
-
-slice-aggregate-fill-lines : tie.Need-slice-aggregate-fill-lines
-slice-aggregate-fill-lines c = sym (c .before .before .before .fill-lanes .kept .1 .1 .0)
-
-slice-aggregate-fill-lines-2 : tie.Need-slice-aggregate-fill-lines-2
-slice-aggregate-fill-lines-2 c = refl
-
-fill-lines-requires : tie.Need-fill-lines-requires
-fill-lines-requires c κs = ((c .before .before .before .before .before .before .before .before .before .before .pre .file), omega (arith, c .before .before .before .before .fill-lanes .kept .1 .1 .0), omega arith, lines-none (accountOf (now (c .before .before .before .before .before .before .before .before .before .before .args .file)) (c .before .before .before .before .before .before .before .before .before .before .args .l)) ((c .before .before .before .before .before .before .before .before .before .before .pre .file) .placed .positions-most))
+set-leaves-requires : tie.Need-set-leaves-requires
+set-leaves-requires c κs = record { some = some-rows (now (c .before .before .before .before .before .before .before .before .before .args .file)) (c .before .before .before .before .before .before .before .before .before .args .l) (c .before .before .before .before .before .before .before .before .before .pre .table-new .file); few = ((c .before .before .before .before .before .before .before .before .before .pre .table-new .file) .placed .positions-most); room = omega (arith, ((c .before .before .before .before .before .before .before .before .before .pre .table-new .file) .placed .positions-most)) }
 
 slice-aggregate-begin-rows : tie.Need-slice-aggregate-begin-rows
-slice-aggregate-begin-rows c = sym (c .before .before .before .before .before .before .before .before .before .fill-lanes .kept .1 .1 .1 .0)
+slice-aggregate-begin-rows c = search needs
 
 slice-aggregate-begin-rows-2 : tie.Need-slice-aggregate-begin-rows-2
-slice-aggregate-begin-rows-2 c = sym (c .before .before .before .before .before .fill-lines .kept .1 .1 .1 .0)
-
-slice-aggregate-begin-rows-3 : tie.Need-slice-aggregate-begin-rows-3
-slice-aggregate-begin-rows-3 c = refl
-
-slice-aggregate-begin-rows-4 : tie.Need-slice-aggregate-begin-rows-4
-slice-aggregate-begin-rows-4 c = refl
+slice-aggregate-begin-rows-2 c = search needs
 
 begin-rows-requires : tie.Need-begin-rows-requires
-begin-rows-requires c κs = ((c .before .before .before .before .before .before .before .before .before .before .before .before .before .before .before .before .before .before .pre .file), omega (arith, c .before .before .before .before .before .before .before .before .before .before .before .before .before .before .before .before .before .before .pre .lefts, (c .before .before .before .before .before .before .before .before .before .before .before .before .before .before .before .before .before .before .pre .file) .placed .positions-most), c .before .before .before .before .before .before .before .before .before .before .before .before .fill-lanes .ensures, omega (arith, c .before .before .before .before .before .before .before .fill-lines .kept .1 .1 .1 .0), c .before .before .before .before .before .before .before .fill-lines .ensures, leaves-none (accountOf (now (c .before .before .before .before .before .before .before .before .before .before .before .before .before .before .before .before .before .before .args .file)) (c .before .before .before .before .before .before .before .before .before .before .before .before .before .before .before .before .before .before .args .l)) (now (c .before .before .before .before .before .before .before .before .before .before .before .before .before .before .before .before .before .before .args .left)) _ _ (omega arith) ((c .before .before .before .before .before .before .before .before .before .before .before .before .before .before .before .before .before .before .pre .file) .placed .positions-most))
+begin-rows-requires c κs = record { rests = (record { file = (c .before .before .before .before .before .before .before .before .before .before .before .before .before .before .before .pre .table-new .file); filled = c .before .before .before .before .before .before .before .before .before .fill-rows .ensures .filled; lefts = c .before .before .before .before .before .before .before .before .before .before .before .before .before .before .before .pre .lefts }); lines = c .before .before .before .before .before .before .before .before .before .fill-rows .ensures .lines; leaves = leaves-none (accountOf (now (c .before .before .before .before .before .before .before .before .before .before .before .before .before .before .before .args .file)) (c .before .before .before .before .before .before .before .before .before .before .before .before .before .before .before .args .l)) (now (c .before .before .before .before .before .before .before .before .before .before .before .before .before .before .before .args .left)) (c .before .before .before .before .before .before .before .before .before .fill-rows .last .1 .1 .0) (c .before .before .before .before .before .set-leaves .last .0) _ (omega arith) (record { some = some-rows (now (c .before .before .before .before .before .before .before .before .before .before .before .before .before .before .before .args .file)) (c .before .before .before .before .before .before .before .before .before .before .before .before .before .before .before .args .l) (c .before .before .before .before .before .before .before .before .before .before .before .before .before .before .before .pre .table-new .file); few = ((c .before .before .before .before .before .before .before .before .before .before .before .before .before .before .before .pre .table-new .file) .placed .positions-most); room = omega (arith, ((c .before .before .before .before .before .before .before .before .before .before .before .before .before .before .before .pre .table-new .file) .placed .positions-most), c .before .before .before .before .before .set-leaves .kept .0) }) (c .before .before .before .before .before .set-leaves .ensures) }
 
 slice-aggregate-pair-rounds : tie.Need-slice-aggregate-pair-rounds
-slice-aggregate-pair-rounds c = sym (c .before .before .before .before .before .before .before .before .before .before .before .before .before .before .before .before .before .before .fill-lanes .kept .1 .1 .1 .0)
+slice-aggregate-pair-rounds c = search needs
 
 slice-aggregate-pair-rounds-2 : tie.Need-slice-aggregate-pair-rounds-2
-slice-aggregate-pair-rounds-2 c = sym (c .before .before .before .before .before .before .before .before .before .before .before .before .before .before .fill-lines .kept .1 .1 .1 .0)
-
-slice-aggregate-pair-rounds-3 : tie.Need-slice-aggregate-pair-rounds-3
-slice-aggregate-pair-rounds-3 c = sym (c .before .before .before .before .before .before .before .begin-rows .kept .1 .1 .1 .1 .1 .0)
-
-slice-aggregate-pair-rounds-4 : tie.Need-slice-aggregate-pair-rounds-4
-slice-aggregate-pair-rounds-4 c = sym (c .before .before .before .before .before .before .before .before .begin-rows .kept .1 .1 .1 .1 .1 .1 .0)
+slice-aggregate-pair-rounds-2 c = search needs
 
 pair-rounds-requires : tie.Need-pair-rounds-requires
-pair-rounds-requires c κs = (c .before .before .before .before .before .before .before .before .before .before .before .before .before .before .before .before .before .before .before .before .before .before .before .before .before .before .before .pre, c .before .before .before .before .before .before .before .before .before .before .before .before .before .before .before .before .before .before .before .before .before .fill-lanes .ensures, omega (arith, c .before .before .before .before .before .before .before .before .before .before .before .before .before .before .before .before .fill-lines .kept .1 .1 .1 .0), c .before .before .before .before .before .before .before .before .before .before .before .before .before .before .before .before .fill-lines .ensures, c .before .before .before .before .before .before .before .before .begin-rows .ensures)
+pair-rounds-requires c κs = record { rows = record { rests = (record { file = (c .before .before .before .before .before .before .before .before .before .before .before .before .before .before .before .before .before .before .before .before .before .before .before .pre .table-new .file); filled = c .before .before .before .before .before .before .before .before .before .before .before .before .before .before .before .before .before .fill-rows .ensures .filled; lefts = c .before .before .before .before .before .before .before .before .before .before .before .before .before .before .before .before .before .before .before .before .before .before .before .pre .lefts }); lines = c .before .before .before .before .before .before .before .before .before .before .before .before .before .before .before .before .before .fill-rows .ensures .lines; standings = c .before .before .before .before .before .before .before .begin-rows .ensures }; room = c .before .before .before .before .before .before .before .before .before .before .before .before .before .before .before .before .before .before .before .before .before .before .before .pre .room; contracts = c .before .before .before .before .before .before .before .before .before .before .before .before .before .before .before .before .before .before .before .before .before .before .before .pre .contracts }
 
 same-length : tie.Need-same-length
-same-length c = c .before .before .before .before .before .before .pair-rounds .kept .1 .1 .0
+same-length c = search needs
 
 same-length-2 : tie.Need-same-length-2
-same-length-2 c = c .before .before .before .before .before .before .pair-rounds .kept .1 .1 .1 .0
+same-length-2 c = search needs
+
+same-length-3 : tie.Need-same-length-3
+same-length-3 c = search needs
 
 returns : tie.Need-returns
-returns c = c .before .before .before .before .before .before .pair-rounds .ensures
+returns c = record { paired = c .before .before .before .before .before .before .pair-rounds .ensures; units = c .before .before .before .before .before .before .before .before .before .before .before .before .before .before .before .before .before .before .before .before .before .before .before .before .fill-rows .ensures .filled .units; room = c .before .before .before .before .before .before .before .before .before .before .before .before .before .before .before .before .before .before .before .before .before .before .before .before .fill-rows .ensures .filled .room }
 
 pub pair-up-spec : {M : Type 1} → statement M
 pair-up-spec =
     tie.close
     (tie.spec
-    slice-aggregate-fill-lanes
-    slice-aggregate-fill-lanes-2
-    fill-lanes-requires
-    slice-aggregate-fill-lines
-    slice-aggregate-fill-lines-2
-    fill-lines-requires
+    fill-rows-requires
+    slice-aggregate-set-leaves
+    set-leaves-requires
     slice-aggregate-begin-rows
     slice-aggregate-begin-rows-2
-    slice-aggregate-begin-rows-3
-    slice-aggregate-begin-rows-4
     begin-rows-requires
     slice-aggregate-pair-rounds
     slice-aggregate-pair-rounds-2
-    slice-aggregate-pair-rounds-3
-    slice-aggregate-pair-rounds-4
     pair-rounds-requires
     same-length
     same-length-2
+    same-length-3
     returns)

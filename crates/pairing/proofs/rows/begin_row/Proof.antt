@@ -7,40 +7,40 @@ use lib.ListN.{length-set}
 use native.Mathlib.Omega.{arith}
 
 add-if1 : tie.Need-add-if1
-add-if1 c = (omega (arith, c .before .before .before .before .before .before .pre .0 .row, c .before .before .before .before .before .before .pre .0 .file .placed .positions-most))
+add-if1 c = (omega (arith, c .before .before .before .before .before .before .pre .row .row, (c .before .before .before .before .before .before .pre .row .rests .file .placed .positions-most)))
 
 mul-if1 : tie.Need-mul-if1
-mul-if1 c = (omega (arith, c .before .before .before .before .before .before .pre .0 .row, c .before .before .before .before .before .before .pre .0 .file .placed .positions-most))
+mul-if1 c = (omega (arith, c .before .before .before .before .before .before .pre .row .row, (c .before .before .before .before .before .before .pre .row .rests .file .placed .positions-most), c .before .before .before .before .before .before .pre .leaves .leafed .room))
 
 slice-read-if1 : tie.Need-slice-read-if1
-slice-read-if1 c = (omega (arith, c .before .before .before .before .before .before .before .pre .0 .row, c .before .before .before .before .before .before .before .pre .0 .file .placed .positions-most, c .before .before .before .before .before .before .before .pre .2 .tree-room))
+slice-read-if1 c = (omega (arith, c .before .before .before .before .before .before .before .pre .row .row, (c .before .before .before .before .before .before .before .pre .row .rests .file .placed .positions-most), c .before .before .before .before .before .before .before .pre .leaves .leafed .room))
 
 returns : tie.Need-returns
-returns c = begun-waits (accountOf (now (c .before .before .before .before .before .before .before .before .args .file)) (c .before .before .before .before .before .before .before .before .args .l)) (now (c .before .before .before .before .before .before .before .before .args .left)) (now (c .before .before .before .before .before .before .before .before .args .next)) (now (c .before .before .before .before .before .before .before .before .args .tree)) (now (c .before .before .before .before .before .before .before .before .args .places)) (c .before .before .before .before .before .before .before .before .args .w) (c .before .before .before .before .before .before .before .before .pre .0 .row) (c .before .before .before .before .before .before .before .before .pre .0 .file .placed .positions-most) (c .before .before .before .before .before .before .before .before .pre .2) (c .if1 .taken)
+returns c = begun-waits (accountOf (now (c .before .before .before .before .before .before .before .before .args .file)) (c .before .before .before .before .before .before .before .before .args .l)) (now (c .before .before .before .before .before .before .before .before .args .left)) (now (c .before .before .before .before .before .before .before .before .args .table)) (now (c .before .before .before .before .before .before .before .before .args .tree)) (now (c .before .before .before .before .before .before .before .before .args .places)) (c .before .before .before .before .before .before .before .before .args .w) (c .before .before .before .before .before .before .before .before .pre .row .row) (c .before .before .before .before .before .before .before .before .pre .row .rests .file .placed .positions-most) (c .before .before .before .before .before .before .before .before .pre .leaves) (c .if1 .taken)
 
 first-standing-requires : tie.Need-first-standing-requires
-first-standing-requires c κs = (c .before .before .before .before .before .before .before .before .pre .0, c .before .before .before .before .before .before .before .before .pre .1)
+first-standing-requires c κs = c .before .before .before .before .before .before .before .before .pre .row
 
 put-places-requires : tie.Need-put-places-requires
-put-places-requires c κs = (c .before .before .before .before .before .before .before .before .before .before .pre .2 .places-room, (omega (arith, c .before .before .before .before .before .before .before .before .before .before .pre .0 .row, c .before .before .before .before .before .before .before .before .before .before .pre .0 .file .placed .positions-most)))
+put-places-requires c κs = (c .before .before .before .before .before .before .before .before .before .before .pre .leaves .places-room, (omega (arith, c .before .before .before .before .before .before .before .before .before .before .pre .row .row, (c .before .before .before .before .before .before .before .before .before .before .pre .row .rests .file .placed .positions-most))))
 
 add-tree : tie.Need-add-tree
-add-tree c = (omega (arith, c .before .before .before .before .before .before .before .before .before .before .before .before .before .pre .0 .row, c .before .before .before .before .before .before .before .before .before .before .before .before .before .pre .0 .file .placed .positions-most))
+add-tree c = (omega (arith, c .before .before .before .before .before .before .before .before .before .before .before .before .before .before .pre .row .row, (c .before .before .before .before .before .before .before .before .before .before .before .before .before .before .pre .row .rests .file .placed .positions-most)))
 
 mul-tree : tie.Need-mul-tree
-mul-tree c = (omega (arith, c .before .before .before .before .before .before .before .before .before .before .before .before .before .pre .0 .row, c .before .before .before .before .before .before .before .before .before .before .before .before .before .pre .0 .file .placed .positions-most))
+mul-tree c = (omega (arith, c .before .before .before .before .before .before .before .before .before .before .before .before .before .before .pre .row .row, (c .before .before .before .before .before .before .before .before .before .before .before .before .before .before .pre .row .rests .file .placed .positions-most), c .before .before .before .before .before .before .before .before .before .before .before .before .before .before .pre .leaves .leafed .room))
 
 slice-write-tree : tie.Need-slice-write-tree
-slice-write-tree c = (omega (arith, c .before .before .before .before .before .before .before .before .before .before .before .before .before .pre .0 .row, c .before .before .before .before .before .before .before .before .before .before .before .before .before .pre .0 .file .placed .positions-most, c .before .before .before .before .before .before .before .before .before .before .before .before .before .pre .2 .tree-room))
+slice-write-tree c = (omega (arith, c .before .before .before .before .before .before .before .before .before .before .before .before .before .before .pre .row .row, (c .before .before .before .before .before .before .before .before .before .before .before .before .before .before .pre .row .rests .file .placed .positions-most), c .before .before .before .before .before .before .before .before .before .before .before .before .before .before .pre .leaves .leafed .room))
 
 same-length : tie.Need-same-length
 same-length c = simp length-set
 
 same-length-2 : tie.Need-same-length-2
-same-length-2 c = c .before .before .put-places .kept .0
+same-length-2 c = c .before .before .before .put-places .kept .0
 
 returns-2 : tie.Need-returns-2
-returns-2 c = begun (accountOf (now (c .before .before .before .before .before .before .before .before .before .before .before .before .before .args .file)) (c .before .before .before .before .before .before .before .before .before .before .before .before .before .args .l)) (now (c .before .before .before .before .before .before .before .before .before .before .before .before .before .args .left)) (now (c .before .before .before .before .before .before .before .before .before .before .before .before .before .args .next)) (now (c .before .before .before .before .before .before .before .before .before .before .before .before .before .args .tree)) (now (c .before .before .before .before .before .before .before .before .before .before .before .before .before .args .places)) (c .before .before .before .before .before .before .before .before .before .before .before .before .before .args .w) (c .before .before .before .before .before .before .before .before .before .before .before .before .before .pre .0 .row) (c .before .before .before .before .before .before .before .before .before .before .before .before .before .pre .0 .file .placed .positions-most) (c .before .before .put-places .last .0) (c .before .before .before .before .first-standing .result) (c .before .before .before .before .before .before .before .before .before .before .before .before .before .pre .2) (c .before .before .put-places .ensures) (c .before .before .put-places .kept .0) (c .before .before .before .before .first-standing .ensures)
+returns-2 c = begun (accountOf (now (c .before .before .before .before .before .before .before .before .before .before .before .before .before .before .args .file)) (c .before .before .before .before .before .before .before .before .before .before .before .before .before .before .args .l)) (now (c .before .before .before .before .before .before .before .before .before .before .before .before .before .before .args .left)) (now (c .before .before .before .before .before .before .before .before .before .before .before .before .before .before .args .table)) (now (c .before .before .before .before .before .before .before .before .before .before .before .before .before .before .args .tree)) (now (c .before .before .before .before .before .before .before .before .before .before .before .before .before .before .args .places)) (c .before .before .before .before .before .before .before .before .before .before .before .before .before .before .args .w) (c .before .before .before .before .before .before .before .before .before .before .before .before .before .before .pre .row .row) (c .before .before .before .before .before .before .before .before .before .before .before .before .before .before .pre .row .rests .file .placed .positions-most) (c .before .before .before .put-places .last .0) (c .before .before .before .before .before .first-standing .result) (c .before .before .before .before .before .before .before .before .before .before .before .before .before .before .pre .leaves) (c .before .before .before .put-places .ensures) (c .before .before .before .put-places .kept .0) (c .before .before .before .before .before .first-standing .ensures)
 
 pub begin-row-spec : {M : Type 1} → statement M
 begin-row-spec =

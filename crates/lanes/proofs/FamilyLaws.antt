@@ -1,0 +1,103 @@
+-- Rows that may pair are of one family, and identical-only rows have one strike.
+-- Assumes nothing.
+use Prim.Native.Nat.{ℕ, _≤_}
+use mathlib.Core.Bool.{Bool, true, false, cond}
+use mathlib.Core.Path.{_≡_, refl, sym, ap, _∙_}
+use native.Mathlib.Omega.{arith}
+use lib.Dec.{eqb}
+use borrow.Author.Tests.{eqb-true}
+use Rattle.lanes.specs.Keys.{barrierFamily, family, termsFamily}
+use Rattle.rules.proofs.MayPair.{may-pairable}
+use Rattle.rules.proofs.SameRows.{same-terms}
+use Rattle.rules.proofs.Tests.{neither}
+use Rattle.rules.specs.File.{Account}
+use Rattle.rules.specs.OnePosition.{afterFlag1, normal}
+use Rattle.rules.specs.Pairs.{mayOf}
+use Rattle.rules.specs.Spreads.{hasLimiter, kindOf, limiterBars, oneKindSpread, priceOf, same, spreadBetween, unitSpread}
+use Rattle.rules.specs.declared.Barrier.{Barrier}
+use Rattle.rules.specs.declared.Barrier.the-variants.{NoBarrier, UpIn, DownIn, UpOut, DownOut}
+use Rattle.rules.specs.declared.Position.{Position}
+use Rattle.rules.specs.declared.Series.{Series}
+use Rattle.rules.specs.declared.Spread.{Spread}
+use Rattle.rules.specs.declared.Spread.the-variants.{Barred, Margin}
+use Rattle.rules.specs.declared.Terms.{Terms}
+
+kindFamily : ℕ → ℕ
+kindFamily k = cond (eqb k 0) 0 (cond (eqb k 3) 1 (cond (eqb k 4) 2 3))
+
+by-kind : (b : Barrier) → barrierFamily b ≡ kindFamily (kindOf b)
+unfolding kindFamily
+by-kind NoBarrier = refl
+by-kind (UpIn p) = refl
+by-kind (DownIn p) = refl
+by-kind (UpOut p) = refl
+by-kind (DownOut p) = refl
+
+one-kind : (b c : Barrier) → eqb (kindOf b) (kindOf c) ≡ true → barrierFamily b ≡ barrierFamily c
+one-kind b c e = by-kind b ∙ ap kindFamily (eqb-true (kindOf b) (kindOf c) e) ∙ sym (by-kind c)
+
+barrier-most : (b : Barrier) → barrierFamily b ≤ 3
+barrier-most NoBarrier = omega arith
+barrier-most (UpIn p) = omega arith
+barrier-most (DownIn p) = omega arith
+barrier-most (UpOut p) = omega arith
+barrier-most (DownOut p) = omega arith
+
+pub family-most : (p : Position) → family p ≤ 3
+unfolding family
+family-most p = go (hasLimiter (normal p .limiter))
+  where
+    go : (t : Bool) → cond t 3 (barrierFamily (normal p .barrier)) ≤ 3
+    go true = omega arith
+    go false = barrier-most (normal p .barrier)
+
+barred : (u : ℕ) {A : Type 0} → Barred ≡ Margin u → A
+barred u e = let z : _≡_ {A = ℕ} 0 1 = cc in absurd (omega arith)
+
+-- A barrier whose own rule gives a margin is no knock-in.
+no-knock-in : (b : Barrier) (x u : ℕ) (s : Series) (h w : Terms) → oneKindSpread b x s h w ≡ Margin u → barrierFamily b ≡ 3 → w .pe ≡ h .pe
+no-knock-in NoBarrier x u s h w e f = absurd (omega arith)
+no-knock-in (UpIn p) x u s h w e f = barred u e
+no-knock-in (DownIn p) x u s h w e f = barred u e
+no-knock-in (UpOut p) x u s h w e f = absurd (omega arith)
+no-knock-in (DownOut p) x u s h w e f = absurd (omega arith)
+
+-- Two normalised positions with a spread.
+module _ (s : Series) (h w : Terms) (u : ℕ) where
+  alike : same h w ≡ true → (termsFamily w ≡ termsFamily h) × (termsFamily w ≡ 3 → w .pe ≡ h .pe)
+  alike e = let n = same-terms h w e in (ap termsFamily (sym n), λ q. ap (λ (t : Terms). t .pe) (sym n))
+
+  unlike : limiterBars (h .limiter) (w .limiter) ≡ false → eqb (kindOf (h .barrier)) (kindOf (w .barrier)) ≡ true
+      → oneKindSpread (w .barrier) (priceOf (h .barrier)) s h w ≡ Margin u
+      → (termsFamily w ≡ termsFamily h) × (termsFamily w ≡ 3 → w .pe ≡ h .pe)
+  unlike l k e =
+      let n = neither (hasLimiter (h .limiter)) (hasLimiter (w .limiter)) l in
+      rw (n .0, n .1)
+      (sym (one-kind (h .barrier) (w .barrier) k), no-knock-in (w .barrier) (priceOf (h .barrier)) u s h w e)
+
+  terms-family : spreadBetween s h w ≡ Margin u → (termsFamily w ≡ termsFamily h) × (termsFamily w ≡ 3 → w .pe ≡ h .pe)
+  terms-family = go (same h w) (limiterBars (h .limiter) (w .limiter)) (eqb (kindOf (h .barrier)) (kindOf (w .barrier))) refl refl refl
+    where
+      go : (x y z : Bool) → same h w ≡ x → limiterBars (h .limiter) (w .limiter) ≡ y → eqb (kindOf (h .barrier)) (kindOf (w .barrier)) ≡ z
+          → cond x (Margin 0) (cond y Barred (cond z (oneKindSpread (w .barrier) (priceOf (h .barrier)) s h w) Barred)) ≡ Margin u
+          → (termsFamily w ≡ termsFamily h) × (termsFamily w ≡ 3 → w .pe ≡ h .pe)
+      go true y z a b c e = alike a
+      go false true z a b c e = barred u e
+      go false false true a b c e = unlike b c e
+      go false false false a b c e = barred u e
+
+pub normal-pe : (p : Position) → normal p .pe ≡ p .terms .pe
+normal-pe p = go (p .flags .knockedIn)
+  where
+    go : (t : Bool) → afterFlag1 t (p .terms) .pe ≡ p .terms .pe
+    go true = refl
+    go false = refl
+
+-- Two rows that may pair.
+pub may-family : (a : Account) (w h : ℕ) → mayOf a w h ≡ true
+    → (family (a .positionAt w) ≡ family (a .positionAt h)) × (family (a .positionAt w) ≡ 3 → a .positionAt w .terms .pe ≡ a .positionAt h .terms .pe)
+unfolding unitSpread family
+may-family a w h e =
+    let p = may-pairable a w h e in
+    let t = terms-family _ (normal (a .positionAt h)) (normal (a .positionAt w)) (p .spread) (p .spread-is) in
+    (t .0, λ q. sym (normal-pe (a .positionAt w)) ∙ t .1 q ∙ normal-pe (a .positionAt h))

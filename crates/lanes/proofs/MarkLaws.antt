@@ -1,0 +1,92 @@
+-- What keys have, from a mark: as the definitions have it of the row.
+-- Assumes nothing.
+use Prim.Native.Nat.{ℕ, _+_, _-_, _/_, _%_, _≤_}
+use mathlib.Core.Bool.{Bool, true, false, cond}
+use mathlib.Core.Path.{_≡_, refl, sym, ap, _∙_}
+use native.Mathlib.Omega.{arith}
+use lib.Dec.{eqb}
+use borrow.Author.Tests.{eq-eqb, ne-eqb}
+use Rattle.lanes.proofs.FamilyLaws.{family-most}
+use Rattle.lanes.proofs.KeyLaws.{place-most}
+use Rattle.lanes.specs.Keys.{InRange, barrierFamily, family, fromOf, groupOf, last, placeOf, topOf}
+use Rattle.lanes.specs.Marks.{markFrom, markGroup, markOf, markPlace, markTop, roleOf, sideRole}
+use Rattle.rules.specs.OnePosition.{normal}
+use Rattle.rules.specs.Pairs.{europeanOrBeforeAnnex}
+use Rattle.rules.specs.Spreads.{hasLimiter}
+use Rattle.rules.specs.declared.Position.{Position}
+use Rattle.rules.specs.declared.Side.{Side}
+use Rattle.rules.specs.declared.Side.the-variants.{Held, Written}
+use Rattle.rules.specs.declared.Terms.{Terms}
+
+-- The family, return by return.
+module _ (p : Position) (n : Terms) (is : n ≡ normal p) (t : Bool) (tested : t ≡ hasLimiter (n .limiter)) where
+  limited : hasLimiter (normal p .limiter) ≡ t
+  limited = sym (tested ∙ ap (λ (x : Terms). hasLimiter (x .limiter)) is)
+
+  pub family-limited : t ≡ true → 3 ≡ family p
+  unfolding family
+  family-limited e = rw (limited ∙ e)
+
+  pub family-other : (x : ℕ) → t ≡ false → x ≡ barrierFamily (n .barrier) → x ≡ family p
+  unfolding family
+  family-other x e q = rw (limited ∙ e) (q ∙ ap (λ (x : Terms). barrierFamily (x .barrier)) is)
+
+pub side-most : (s : Side) → sideRole s ≤ 1
+side-most Held = omega arith
+side-most Written = omega arith
+
+pub role-most : (p : Position) → roleOf p ≤ 2
+role-most p = go (europeanOrBeforeAnnex p)
+  where
+    go : (t : Bool) → cond t (sideRole (p .side)) 2 ≤ 2
+    go true = omega (arith, side-most (p .side))
+    go false = omega arith
+
+pub role-pairs : (p : Position) (x : ℕ) → europeanOrBeforeAnnex p ≡ true → x ≡ sideRole (p .side) → x ≡ roleOf p
+role-pairs p x e q = rw e q
+
+pub role-none : (p : Position) → europeanOrBeforeAnnex p ≡ false → 2 ≡ roleOf p
+role-none p e = rw e refl
+
+-- The top, return by return.
+module _ (o x : ℕ) where
+  pub top-here : x / 1_099_511_627_776 % 4 ≡ 3 → o ≡ 256 → (y : ℕ) → y ≡ markPlace x → y + 256 ≡ markTop o x
+  top-here e q y r = rw (r, eq-eqb (x / 1_099_511_627_776 % 4) 3 e, eq-eqb o 256 q)
+
+  pub top-nowhere : x / 1_099_511_627_776 % 4 ≡ 3 → (o ≡ 256 → ⊥) → 0 ≡ markTop o x
+  top-nowhere e q = rw (eq-eqb (x / 1_099_511_627_776 % 4) 3 e, ne-eqb o 256 q)
+
+  pub top-up : (x / 1_099_511_627_776 % 4 ≡ 3 → ⊥) → o ≡ 256 → (y : ℕ) → y ≡ markGroup x → y + 1_099_511_627_776 ≡ markTop o x
+  top-up e q y r = rw (r, ne-eqb (x / 1_099_511_627_776 % 4) 3 e, eq-eqb o 256 q)
+
+  pub top-down : (x / 1_099_511_627_776 % 4 ≡ 3 → ⊥) → (o ≡ 256 → ⊥) → (y : ℕ) → y ≡ markGroup x → last + 256 - y ≡ markTop o x
+  top-down e q y r = rw (r, ne-eqb (x / 1_099_511_627_776 % 4) 3 e, ne-eqb o 256 q)
+
+  pub from-up : o ≡ 256 → (y : ℕ) → y ≡ markPlace x → y ≡ markFrom o x
+  from-up q y r = rw (r, eq-eqb o 256 q)
+
+  pub from-down : (o ≡ 256 → ⊥) → (y : ℕ) → y ≡ markPlace x → last - y ≡ markFrom o x
+  from-down q y r = rw (r, ne-eqb o 256 q)
+
+-- A row's mark.
+module _ (p : Position) (ok : InRange p) where
+  pub mark-most : markOf p ≤ last
+  mark-most = omega (arith, place-most p ok, role-most p)
+
+  pub mark-role : markOf p % 256 ≡ roleOf p
+  mark-role = omega (arith, role-most p)
+
+  pub mark-place : markPlace (markOf p) ≡ placeOf p
+  mark-place = omega (arith, role-most p)
+
+  mark-group : markGroup (markOf p) ≡ groupOf p
+  mark-group = omega (arith, role-most p, ok .pe-most)
+
+  mark-family : markOf p / 1_099_511_627_776 % 4 ≡ family p
+  mark-family = omega (arith, role-most p, ok .pe-most, family-most p)
+
+  pub mark-from : (o : ℕ) → markFrom o (markOf p) ≡ fromOf o p
+  mark-from o = rw mark-place refl
+
+  pub mark-top : (o : ℕ) → markTop o (markOf p) ≡ topOf o p
+  mark-top o = rw (mark-family, mark-place, mark-group) refl

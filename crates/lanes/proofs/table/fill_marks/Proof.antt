@@ -1,0 +1,81 @@
+use Prim.Native.Nat.{_-_, _≤_}
+use Rattle.account.proofs.KnownRows.{series-below}
+use Rattle.lanes.proofs.FileFacts.{in-range}
+use Rattle.lanes.proofs.TableLaws.{marked-more, marked-none}
+use Rattle.lanes.proofs.table.fill_marks.Statement.{statement}
+use Rattle.lanes.proofs.table.fill_marks.Tie as tie
+use Rattle.lanes.specs.Marks.{Marked}
+use Rattle.rules.specs.File.{accountOf}
+use denote.Ref.{now}
+use lib.ListN.{length, length-set}
+use mathlib.Core.Path.{_≡_, refl}
+use native.Mathlib.Omega.{arith}
+
+abbrev Inv-loop : tie.InvT-loop
+Inv-loop file l table₀ n r₀ table r = (r ≤ n) × (length table ≡ length table₀) × Marked (accountOf file l) r table₀ table
+
+abbrev μ-loop : tie.MeasureT-loop
+μ-loop file l table₀ n r₀ table r = n - r
+
+loop-holds : tie.Need-loop-holds Inv-loop μ-loop
+loop-holds c = (omega arith, refl, marked-none (accountOf (now (c .before .before .args .file)) (c .before .before .args .l)) (now (c .before .before .args .table)))
+
+position-at-requires : tie.Need-position-at-requires Inv-loop μ-loop
+position-at-requires c κs = (c .before .before .before .before .pre .0, c .loop-test .taken)
+
+mark-of-requires : tie.Need-mark-of-requires Inv-loop μ-loop
+mark-of-requires c κs = in-range (now (c .before .before .before .before .before .args .file)) (c .before .before .before .before .before .args .l) (c .before .before .before .before .before .pre .0) (c .before .before .loop .r) (c .position-at .result) (c .before .loop-test .taken) (c .position-at .ensures)
+
+mul-table : tie.Need-mul-table Inv-loop μ-loop
+mul-table c = (omega (arith, c .before .before .loop-test .taken, c .before .before .before .before .before .before .pre .0 .placed .positions-most, c .before .before .before .loop .inv .1, c .before .before .before .before .before .before .pre .1))
+
+slice-write-table : tie.Need-slice-write-table Inv-loop μ-loop
+slice-write-table c = (omega (arith, c .before .before .loop-test .taken, c .before .before .before .before .before .before .pre .0 .placed .positions-most, c .before .before .before .loop .inv .1, c .before .before .before .before .before .before .pre .1))
+
+unit-of-row-requires : tie.Need-unit-of-row-requires Inv-loop μ-loop
+unit-of-row-requires c κs = (c .before .before .before .before .before .before .pre .0, rw (c .before .position-at .ensures) (series-below (now (c .before .before .before .before .before .before .args .file)) (c .before .before .before .before .before .before .args .l) (c .before .before .before .before .before .before .pre .0) (c .before .before .before .loop .r) (c .before .before .loop-test .taken)))
+
+add-table : tie.Need-add-table Inv-loop μ-loop
+add-table c = (omega (arith, c .before .before .before .loop-test .taken, c .before .before .before .before .before .before .before .pre .0 .placed .positions-most, c .before .before .before .before .loop .inv .1, c .before .before .before .before .before .before .before .pre .1))
+
+mul-table-2 : tie.Need-mul-table-2 Inv-loop μ-loop
+mul-table-2 c = (omega (arith, c .before .before .before .loop-test .taken, c .before .before .before .before .before .before .before .pre .0 .placed .positions-most, c .before .before .before .before .loop .inv .1, c .before .before .before .before .before .before .before .pre .1))
+
+slice-write-table-2 : tie.Need-slice-write-table-2 Inv-loop μ-loop
+slice-write-table-2 c = simp length-set (omega (arith, c .before .before .before .loop-test .taken, c .before .before .before .before .before .before .before .pre .0 .placed .positions-most, c .before .before .before .before .loop .inv .1, c .before .before .before .before .before .before .before .pre .1))
+
+add-r : tie.Need-add-r Inv-loop μ-loop
+add-r c = (omega (arith, c .before .before .before .loop-test .taken, c .before .before .before .before .before .before .before .pre .0 .placed .positions-most, c .before .before .before .before .loop .inv .1, c .before .before .before .before .before .before .before .pre .1))
+
+loop-less : tie.Need-loop-less Inv-loop μ-loop
+loop-less c = omega (arith, c .before .before .before .loop-test .taken)
+
+loop-again : tie.Need-loop-again Inv-loop μ-loop
+loop-again c = (omega (arith, c .before .before .before .loop-test .taken), simp length-set (c .before .before .before .before .loop .inv .1), marked-more (accountOf (now (c .before .before .before .before .before .before .before .args .file)) (c .before .before .before .before .before .before .before .args .l)) (now (c .before .before .before .before .before .before .before .args .table)) (c .before .before .before .before .loop .r) (c .before .before .before .before .loop .table) (omega (arith, c .before .before .before .loop-test .taken, c .before .before .before .before .before .before .before .pre .0 .placed .positions-most, c .before .before .before .before .loop .inv .1, c .before .before .before .before .before .before .before .pre .1)) (omega (arith, c .before .before .before .loop-test .taken, c .before .before .before .before .before .before .before .pre .0 .placed .positions-most, c .before .before .before .before .loop .inv .1, c .before .before .before .before .before .before .before .pre .1)) (c .before .before .before .before .loop .inv .2) (c .before .before .position-at .result) (c .before .mark-of .result) (c .unit-of-row .result) (c .before .before .position-at .ensures) (c .before .mark-of .ensures) (c .unit-of-row .ensures))
+
+same-length : tie.Need-same-length Inv-loop μ-loop
+same-length c = c .before .loop .inv .1
+
+returns : tie.Need-returns Inv-loop μ-loop
+returns c = let e : c .before .loop .r ≡ (c .before .before .before .before .args .l) .positions = omega (arith, c .before .loop .inv .0, c .loop-test .left) in rw e at (c .before .loop .inv .2)
+
+pub fill-marks-spec : {M : Type 1} → statement M
+fill-marks-spec =
+    tie.close
+    (tie.spec
+    Inv-loop
+    μ-loop
+    loop-holds
+    position-at-requires
+    mark-of-requires
+    mul-table
+    slice-write-table
+    unit-of-row-requires
+    add-table
+    mul-table-2
+    slice-write-table-2
+    add-r
+    loop-less
+    loop-again
+    same-length
+    returns)

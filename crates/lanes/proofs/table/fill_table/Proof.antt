@@ -1,0 +1,37 @@
+use Rattle.lanes.proofs.FileFacts.{ranged}
+use Rattle.lanes.proofs.TableLaws.{row-most, table-filled}
+use Rattle.lanes.proofs.table.fill_table.Statement.{statement}
+use Rattle.lanes.proofs.table.fill_table.Tie as tie
+use Rattle.rules.specs.File.{accountOf}
+use denote.Ref.{now}
+use mathlib.Core.Path.{_∙_}
+use native.Mathlib.Omega.{arith}
+
+fill-marks-requires : tie.Need-fill-marks-requires
+fill-marks-requires c κs = (c .before .before .before .before .pre .file, omega (arith, c .before .before .before .before .pre .room))
+
+fill-keys-requires : tie.Need-fill-keys-requires
+fill-keys-requires c κs = record { few = (ranged (now (c .before .before .before .before .before .before .before .before .before .args .file)) (c .before .before .before .before .before .before .before .before .before .args .l) (c .before .before .before .before .before .before .before .before .before .pre .file)) .rows-most; room = omega (arith, (ranged (now (c .before .before .before .before .before .before .before .before .before .args .file)) (c .before .before .before .before .before .before .before .before .before .args .l) (c .before .before .before .before .before .before .before .before .before .pre .file)) .rows-most, c .before .before .before .before .before .before .before .before .before .pre .room, c .before .before .before .before .fill-marks .kept .1 .1 .0); keys-room = c .before .before .before .before .before .before .before .before .before .pre .written-room }
+
+fill-links-requires : tie.Need-fill-links-requires
+fill-links-requires c κs = record { few = (ranged (now (c .before .before .before .before .before .before .before .before .before .before .before .before .before .before .args .file)) (c .before .before .before .before .before .before .before .before .before .before .before .before .before .before .args .l) (c .before .before .before .before .before .before .before .before .before .before .before .before .before .before .pre .file)) .rows-most; room = omega (arith, c .before .before .before .before .before .before .before .before .before .before .before .before .before .before .pre .room, c .before .before .before .before .before .before .before .before .before .fill-marks .kept .1 .1 .0); placed = row-most (accountOf (now (c .before .before .before .before .before .before .before .before .before .before .before .before .before .before .args .file)) (c .before .before .before .before .before .before .before .before .before .before .before .before .before .before .args .l)) (ranged (now (c .before .before .before .before .before .before .before .before .before .before .before .before .before .before .args .file)) (c .before .before .before .before .before .before .before .before .before .before .before .before .before .before .args .l) (c .before .before .before .before .before .before .before .before .before .before .before .before .before .before .pre .file)) (c .before .before .before .before .before .before .before .before .before .fill-marks .last .1 .1 .0) (c .before .before .before .before .before .before .before .before .before .fill-marks .ensures .marks); written-room = omega (arith, (ranged (now (c .before .before .before .before .before .before .before .before .before .before .before .before .before .before .args .file)) (c .before .before .before .before .before .before .before .before .before .before .before .before .before .before .args .l) (c .before .before .before .before .before .before .before .before .before .before .before .before .before .before .pre .file)) .rows-most, c .before .before .before .before .fill-keys .ensures .few, c .before .before .before .before .before .before .before .before .before .before .before .before .before .before .pre .written-room, c .before .before .before .before .fill-keys .kept .1 .1 .1 .0); sorted = c .before .before .before .before .fill-keys .ensures }
+
+same-length : tie.Need-same-length
+same-length c = c .before .before .fill-links .kept .0 ∙ c .before .before .before .before .before .before .before .before .before .before .before .before .fill-marks .kept .1 .1 .0
+
+same-length-2 : tie.Need-same-length-2
+same-length-2 c = c .before .before .before .before .before .before .before .fill-keys .kept .1 .1 .1 .0
+
+returns : tie.Need-returns
+returns c = table-filled (accountOf (now (c .before .before .before .before .before .before .before .before .before .before .before .before .before .before .before .before .before .args .file)) (c .before .before .before .before .before .before .before .before .before .before .before .before .before .before .before .before .before .args .l)) (ranged (now (c .before .before .before .before .before .before .before .before .before .before .before .before .before .before .before .before .before .args .file)) (c .before .before .before .before .before .before .before .before .before .before .before .before .before .before .before .before .before .args .l) (c .before .before .before .before .before .before .before .before .before .before .before .before .before .before .before .before .before .pre .file)) (now (c .before .before .before .before .before .before .before .before .before .before .before .before .before .before .before .before .before .args .table)) (c .before .before .before .before .before .before .before .before .before .before .before .before .fill-marks .last .1 .1 .0) (c .before .before .fill-links .last .0) (c .before .before .before .before .before .before .before .fill-keys .last .1 .1 .1 .0) (c .before .before .before .before .before .before .before .fill-keys .result) (omega (arith, c .before .before .before .before .before .before .before .before .before .before .before .before .before .before .before .before .before .pre .room, c .before .before .before .before .before .before .before .before .before .before .before .before .fill-marks .kept .1 .1 .0, c .before .before .fill-links .kept .0)) (c .before .before .before .before .before .before .before .before .before .before .before .before .fill-marks .ensures) (c .before .before .before .before .before .before .before .fill-keys .ensures) (c .before .before .fill-links .ensures)
+
+pub fill-table-spec : {M : Type 1} → statement M
+fill-table-spec =
+    tie.close
+    (tie.spec
+    fill-marks-requires
+    fill-keys-requires
+    fill-links-requires
+    same-length
+    same-length-2
+    returns)

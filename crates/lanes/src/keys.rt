@@ -1,0 +1,111 @@
+// The mark of a row, made once, and what keys have of it.
+use crate::UP;
+use position::quantities::normalised;
+use rules::Barrier;
+use rules::Position;
+use rules::Side;
+use spreads::terms::european_or_before_annex;
+use spreads::terms::has_limiter;
+ghost use Prim.Native.Nat.{_≤_};
+ghost use mathlib.Core.Path.{_≡_};
+ghost use Rattle.lanes.specs.Keys.{InRange, barrierFamily, family, last};
+ghost use Rattle.lanes.specs.Marks.{markFrom, markGroup, markOf, markPlace, markTop, roleOf, sideRole};
+
+// What stands for no key, no rank and no distance.
+pub const NONE: u64 = 1_152_921_504_606_846_976;
+
+// Where the down lane counts from.
+pub const LAST: u64 = 281_474_976_710_656;
+
+fn barrier_family(b: Barrier) -> u64
+    ensures { λ r. ⌜ r ≡ barrierFamily b ⌝ }
+{
+    match b {
+        Barrier::NoBarrier => 0,
+        Barrier::UpIn(_) => 3,
+        Barrier::DownIn(_) => 3,
+        Barrier::UpOut(_) => 1,
+        Barrier::DownOut(_) => 2,
+    }
+}
+
+// No barrier, up-and-out, down-and-out, or rows that pair with identical rows only.
+fn family_of(p: Position) -> u64
+    ensures { λ r. ⌜ (r ≡ family p) × (r ≤ 3) ⌝ }
+{
+    let n = normalised(p);
+    let limiter = n.limiter;
+    let barrier = n.barrier;
+    if has_limiter(limiter) {
+        return 3;
+    }
+    barrier_family(barrier)
+}
+
+fn side_role(side: Side) -> u64
+    ensures { λ r. ⌜ r ≡ sideRole side ⌝ }
+{
+    match side {
+        Side::Held => 0,
+        Side::Written => 1,
+    }
+}
+
+// The held row of a pair, the written row of a pair, or neither.
+fn role_of(p: Position) -> u64
+    ensures { λ r. ⌜ (r ≡ roleOf p) × (r ≤ 2) ⌝ }
+{
+    if european_or_before_annex(p) {
+        let side = p.side;
+        return side_role(side);
+    }
+    2
+}
+
+pub fn mark_of(p: Position) -> u64
+    requires { ⌜ InRange p ⌝ }
+    ensures { λ x. ⌜ x ≡ markOf p ⌝ }
+{
+    let group = ((p.series as u64) * 4 + family_of(p)) * 1_099_511_627_776;
+    group + (p.terms.pe as u64) * 256 + role_of(p)
+}
+
+pub fn mark_place(x: u64) -> u64
+    ensures { λ r. ⌜ r ≡ markPlace x ⌝ }
+{
+    x / 256 * 256
+}
+
+// The place of a mark as the lane counts it.
+pub fn mark_from(o: usize, x: u64) -> u64
+    requires { ⌜ x ≤ last ⌝ }
+    ensures { λ r. ⌜ r ≡ markFrom o x ⌝ }
+{
+    if o == UP {
+        return mark_place(x);
+    }
+    LAST - mark_place(x)
+}
+
+fn mark_group(x: u64) -> u64
+    ensures { λ r. ⌜ r ≡ markGroup x ⌝ }
+{
+    x / 1_099_511_627_776 * 1_099_511_627_776
+}
+
+// Where the keys end that may pair with a row of this mark.
+pub fn mark_top(o: usize, x: u64) -> u64
+    requires { ⌜ x ≤ last ⌝ }
+    ensures { λ r. ⌜ r ≡ markTop o x ⌝ }
+{
+    if x / 1_099_511_627_776 % 4 == 3 {
+        if o == UP {
+            return mark_place(x) + 256;
+        }
+        return 0;
+    }
+    if o == UP {
+        return mark_group(x) + 1_099_511_627_776;
+    }
+    LAST + 256 - mark_group(x)
+}

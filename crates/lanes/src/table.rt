@@ -1,0 +1,56 @@
+// The table of an account's rows.
+use crate::UNITS;
+use crate::keys::mark_of;
+use crate::links::fill_keys;
+use crate::links::fill_links;
+use account::lookup::position_at;
+use account::lookup::series_of_position;
+use position::margin::unit_margin;
+use rules::Layout;
+use rules::Position;
+use rules::Side;
+ghost use Prim.Native.Nat.{_<_, _≤_};
+ghost use lib.ListN.{length};
+ghost use mathlib.Core.Path.{_≡_};
+ghost use Rattle.account.specs.Known.{Known};
+ghost use Rattle.lanes.specs.Keys.{lineColumn};
+ghost use Rattle.lanes.specs.Marks.{Marked, TableAsked, TableFilled, sideUnit};
+ghost use Rattle.rules.specs.File.{accountOf};
+
+// The unit margin of a written row, 0 for a held one.
+fn unit_of_row(file: &[u8], l: Layout, p: Position) -> u64
+    requires { ⌜ Known (now file) l × (p .series < l .series) ⌝ }
+    ensures { λ u. ⌜ u ≡ sideUnit (p .side) (accountOf (now (file .entry)) l .seriesAt (p .series)) p ⌝ }
+{
+    let side = p.side;
+    match side {
+        Side::Held => 0,
+        Side::Written => unit_margin(series_of_position(file, l, p), p),
+    }
+}
+
+// Marks and unit margins of all rows.
+fn fill_marks(file: &[u8], l: Layout, table: &mut [u64])
+    requires { ⌜ Known (now file) l × (lineColumn ≤ length (now table)) ⌝ }
+    ensures { λ _. ⌜ Marked (accountOf (now (file .entry)) l) (l .positions) (now (table .entry)) (now (table .exit)) ⌝ }
+{
+    let n = l.positions;
+    let mut r = 0;
+    while r < n {
+        let p = position_at(file, l, r);
+        table[r] = mark_of(p);
+        table[UNITS + r] = unit_of_row(file, l, p);
+        r += 1;
+    }
+}
+
+// The table, and the places and rows of the written rows that pair, in ascending order; how many those are.
+pub fn fill_table(file: &[u8], l: Layout, table: &mut [u64], written: &mut [u64]) -> usize
+    requires { ⌜ TableAsked (now file) l (now table) (now written) ⌝ }
+    ensures { λ n. ⌜ TableFilled (accountOf (now (file .entry)) l) (now (table .entry)) (now (table .exit)) (now (written .exit)) n ⌝ }
+{
+    fill_marks(file, l, table);
+    let n = fill_keys(table, l.positions, 1, written);
+    fill_links(table, l.positions, written, n);
+    n
+}

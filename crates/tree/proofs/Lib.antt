@@ -1,0 +1,2 @@
+-- The laws that the tree rests on.
+pub mod TreeLaws
