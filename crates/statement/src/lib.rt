@@ -9,12 +9,18 @@ ghost use Rattle.rules.specs.Output.{marginText};
 pub mod text;
 pub mod words;
 
-// Writes the margin of a file, and answers how many bytes of text that is.
-pub fn print_margin(file: &[u8]) -> usize
-    ensures { λ r. ⌜ r ≡ length (marginText (now (file .entry))) ⌝ }
+// How many bytes of text a margin has, and whether all of them were written.
+pub struct Printed {
+    pub size: usize,
+    pub whole: bool,
+}
+
+// Writes the margin of a file.
+pub fn print_margin(file: &[u8]) -> Printed
+    ensures { λ r. ⌜ r .size ≡ length (marginText (now (file .entry))) ⌝ }
 {
     let mut text = [0u8; MOST_TEXT];
-    let n = put_margin_text(&mut text, file);
-    io::write_all(STDOUT_FILENO, &text[..n]);
-    n
+    let size = put_margin_text(&mut text, file);
+    let whole = io::write_all(STDOUT_FILENO, &text[..size]);
+    Printed { size, whole }
 }

@@ -10,14 +10,14 @@ next-file-requires c κs = search needs
 enum-known-n : tie.Need-enum-known-n
 enum-known-n c = search needs
 
-slice-reshare-prefix-print-margin : tie.Need-slice-reshare-prefix-print-margin
-slice-reshare-prefix-print-margin c = omega (arith, rw (c .before .n .given .1) at (c .before .before .before .before .before .next-file .ensures .1), c .before .before .before .before .before .next-file .ensures .0)
+slice-reshare-prefix-report : tie.Need-slice-reshare-prefix-report
+slice-reshare-prefix-report c = omega (arith, rw (c .before .n .given .1) at (c .before .before .before .before .before .next-file .ensures .1), c .before .before .before .before .before .next-file .ensures .0)
 
-slice-aggregate-print-margin : tie.Need-slice-aggregate-print-margin
-slice-aggregate-print-margin c = simp length-take (omega (arith, rw (c .before .before .n .given .1) at (c .before .before .before .before .before .before .next-file .ensures .1), c .before .before .before .before .before .before .next-file .ensures .0))
+slice-aggregate-report : tie.Need-slice-aggregate-report
+slice-aggregate-report c = simp length-take (omega (arith, rw (c .before .before .n .given .1) at (c .before .before .before .before .before .before .next-file .ensures .1), c .before .before .before .before .before .before .next-file .ensures .0))
 
-print-margin-requires : tie.Need-print-margin-requires
-print-margin-requires c κs = search needs
+report-requires : tie.Need-report-requires
+report-requires c κs = search needs
 
 slice-aggregate-write-all : tie.Need-slice-aggregate-write-all
 slice-aggregate-write-all c = search needs
@@ -27,12 +27,6 @@ write-all-requires c κs = search needs
 
 enum-told : tie.Need-enum-told
 enum-told c = search needs
-
-slice-aggregate-write-all-2 : tie.Need-slice-aggregate-write-all-2
-slice-aggregate-write-all-2 c = search needs
-
-write-all-requires-2 : tie.Need-write-all-requires-2
-write-all-requires-2 c κs = search needs
 
 enum-told-2 : tie.Need-enum-told-2
 enum-told-2 c = search needs
@@ -61,14 +55,12 @@ report-next-spec =
     (tie.spec
     next-file-requires
     enum-known-n
-    slice-reshare-prefix-print-margin
-    slice-aggregate-print-margin
-    print-margin-requires
+    slice-reshare-prefix-report
+    slice-aggregate-report
+    report-requires
+    enum-told
     slice-aggregate-write-all
     write-all-requires
-    enum-told
-    slice-aggregate-write-all-2
-    write-all-requires-2
     enum-told-2
     same-length
     returns
