@@ -1,9 +1,9 @@
-"""Account files by short names of their fields, for the scripts beside this one. tools/account_layout.py packs them."""
+"""Account files by short names of their fields, for the scripts beside this one. serpentgleam.layout packs them."""
 import os
 
 from top import path
 
-import account_layout as layout
+from serpentgleam import layout
 
 FLAGS = [field for field in layout.POSITION.fields if field.offset == 4]
 

@@ -8,7 +8,7 @@ times M 5 and Q 10. Run it from anywhere; `git status` shows no difference where
 from accounts import CALL, EXAMPLE, PUT, account, last, one, position, series, write
 
 from account_batch import framed
-from account_layout import POSITION, SERIES, pack
+from serpentgleam.layout import POSITION, SERIES, pack
 
 CHECKED_CALLS = [
     (dict(), 500),

@@ -1,7 +1,8 @@
 """The words of a series line and of a position line: from words to the values of a row, and back."""
 from typing import NamedTuple, Optional, Tuple
 
-from account_layout import POSITION, SERIES, Table
+from .layout import POSITION, SERIES, Table
+from .suggestions import meant
 
 
 class Word(NamedTuple):
@@ -81,7 +82,8 @@ def read_word(line, text, given):
     name, equals, value = text.partition('=')
     word = line.words.get(name)
     if word is None:
-        raise ValueError(f'no such word in a {line.table.name} line, which takes {", ".join(line.words)}')
+        raise ValueError(f'no such word in a {line.table.name} line, which takes {", ".join(line.words)}'
+                         + meant(name, line.words))
     before = [given[field] for field in word.fields if field in given]
     given.update((field, name) for field in word.fields)
     if before:

@@ -1,7 +1,7 @@
 """The account file of document 01: each field with its place, limits and refusal; from bytes to rows and back."""
 from typing import NamedTuple, Optional, Tuple
 
-from account_forms import FACTOR, WHOLE, Form, hexadecimal
+from .forms import FACTOR, WHOLE, Form, hexadecimal
 
 LONGEST_FILE = 65_536
 HIGHEST = 10_000_000  # price, strike, limiter, rebate or premium
@@ -18,7 +18,7 @@ class Field(NamedTuple):
     name: str
     offset: int
     width: int
-    limits: Optional[Limits]  # None where they depend on other fields; then a rule in account_faults.py has them
+    limits: Optional[Limits]  # None where they depend on other fields; then a rule in faults.py has them
     default: Optional[int] = None  # the value where the text does not give the field; None where it must
     form: Form = WHOLE
     own_bits: Optional[int] = None  # of its bytes, where other fields have the rest
@@ -109,7 +109,7 @@ def trailer_of(data):
 
 
 def account_of(data):
-    """The file's parts. Its trailer must be in order, see account_faults.trailer_fault."""
+    """The file's parts. Its trailer must be in order, see faults.trailer_faults."""
     trailer = trailer_of(data)
     first_series = len(data) - trailer['distance']
     first_position = first_series + SERIES.size * trailer['series count']

@@ -1,19 +1,21 @@
 """The lines of an account's text: from the text to the account, and back."""
-from account_cover import read_cover, write_cover
-from account_faults import first_refusal, position_faults, series_faults
-from account_layout import MOST_ROWS, Account
-from account_words import POSITION_LINE, SERIES_LINE, read_words, write_words
+from .cover import read_cover, write_cover
+from .faults import Fault, first_refusal, position_faults, series_faults
+from .layout import MOST_ROWS, Account
+from .suggestions import meant
+from .words import POSITION_LINE, SERIES_LINE, read_words, write_words
 
 FIRST_WORDS = {'series': SERIES_LINE, 'held': POSITION_LINE, 'written': POSITION_LINE, 'position': POSITION_LINE}
 ROW_WIDTH = 70  # after it the comment with the row's number
+LONGEST_TEXT = 2_097_152  # bytes; the longest that write_account gives has half as many
 
 
 class Unreadable(Exception):
-    """Why a text or a file gives no account, in sentences."""
+    """Why a text or a file gives no account, fault by fault."""
 
-    def __init__(self, sentences):
-        super().__init__(sentences)
-        self.sentences = sentences
+    def __init__(self, faults):
+        super().__init__(faults)
+        self.faults = faults
 
 
 class Text:
@@ -40,7 +42,13 @@ class Text:
             name = FIRST_WORDS[words[0]].table.name
             self.rows[name].append((number, words[1:] if words[0] == name else words))
         else:
-            self.faults.append((number, words[0], 'a line begins with one of ' + ', '.join(['cover', *FIRST_WORDS])))
+            firsts = ['cover', *FIRST_WORDS]
+            self.faults.append((number, words[0], 'a line begins with one of ' + ', '.join(firsts)
+                                + meant(words[0], firsts)))
+
+    def line_numbers(self, table):
+        """The number of each row's line, for a table by its name."""
+        return [number for number, _ in self.rows[table]]
 
     def read_rows(self, line, defaults):
         """The rows of a table; their faults are added to the text's."""
@@ -57,14 +65,21 @@ class Text:
 
 def read_account(data):
     """The account that the bytes of a text describe; raises Unreadable with each fault's line and field."""
+    return read_text(data)[0]
+
+
+def read_text(data):
+    """The same, and the text with the lines of its rows."""
+    if len(data) > LONGEST_TEXT:
+        raise Unreadable([Fault(sentence=f'the text has more than {LONGEST_TEXT} bytes')])
     text = Text(data)
     series = text.read_rows(SERIES_LINE, SERIES_LINE.defaults)
     only_series = {'series': 0} if len(series) == 1 else {}
     positions = text.read_rows(POSITION_LINE, {**POSITION_LINE.defaults, **only_series})
     if text.faults:
         in_order = sorted(text.faults, key=lambda fault: fault[0])
-        raise Unreadable([f'line {number}, field {field}: {sentence}' for number, field, sentence in in_order])
-    return Account(bytes(text.cover), series, positions)
+        raise Unreadable([Fault(line=number, field=field, sentence=sentence) for number, field, sentence in in_order])
+    return Account(bytes(text.cover), series, positions), text
 
 
 def write_row(line, row):
@@ -76,8 +91,8 @@ def write_table(line, rows, faults_by_row):
     """A line a row with its number, and under it a comment for each of its faults."""
     for number, (row, faults) in enumerate(zip(rows, faults_by_row)):
         yield f'{write_row(line, row):<{ROW_WIDTH}}  # {line.table.name} row {number}'
-        for refusal, sentence in faults:
-            yield f'#   refusal {refusal}: {sentence}'
+        for fault in faults:
+            yield f'#   refusal {fault.refusal}: {fault.sentence}'
 
 
 def write_account(account):

@@ -1,16 +1,13 @@
-#!/usr/bin/env python3
-"""Tests of account_text.py: every file comes back byte for byte. What is said of faulty texts is in test_errors.py."""
-import os
+"""The text form: every file comes back byte for byte. What is said of faulty texts is in test_text_faults.py."""
 import random
-import subprocess
-import sys
 import unittest
 
-from account_faults import first_refusal, trailer_fault
-from account_layout import POSITION, SERIES, Account, account_of, file_of, unpack
-from account_text import EXAMPLE, USAGE, file_from_text, text_from_file
-from test_errors import Errors  # run with the tests below
-from test_support import EXAMPLES, LAID_OUT, SERIES_TEXT, TOP, VECTORS, bytes_of, file_with, row_with, run
+from support import EXAMPLES, LAID_OUT, SERIES_TEXT, VECTORS, bytes_of, file_with, row_with
+
+from serpentgleam.faults import first_refusal, trailer_faults
+from serpentgleam.layout import POSITION, SERIES, Account, account_of, file_of, unpack
+from serpentgleam.lines import LONGEST_TEXT, Unreadable
+from serpentgleam.text import EXAMPLE, file_from_text, text_from_file
 
 RAW_WORDS = (' type=', ' side=', ' kind=', ' barrier-price=', ' PB-without-flag=', ' other-flags=', ' spare=')
 EDGES = (0, 1, 2, 4, 8, 16, 255, 3000, 65_535, 10_000_000, 10_000_001, 2 ** 32 - 1)
@@ -18,6 +15,16 @@ EDGES = (0, 1, 2, 4, 8, 16, 255, 3000, 65_535, 10_000_000, 10_000_001, 2 ** 32 -
 
 def text_beside(path):
     return bytes_of(path.replace('.account', '.txt'))
+
+
+def unreadable(data):
+    """The one sentence for a file that has no text."""
+    try:
+        text_from_file(data)
+    except Unreadable as error:
+        (fault,) = error.faults
+        return str(fault)
+    raise AssertionError('the file has a text')
 
 
 def nonzero(row):
@@ -51,10 +58,8 @@ class RoundTrip(unittest.TestCase):
 
     def test_vectors_that_cannot_be_laid_out(self):
         for data, answer in VECTORS:
-            if trailer_fault(data):
-                status, output, errors = run(['to-text'], data)
-                self.assertEqual((status, output), (1, b''))
-                self.assertRegex(errors, rf'\A{answer}: [^\n]+\n\Z')
+            if trailer_faults(data):
+                self.assertRegex(unreadable(data), rf'\A{answer}: [^\n]+\Z')
                 self.assertRegex(answer, r'\Arefused [1-4] 0\Z')
 
     def test_random_rows(self):
@@ -82,6 +87,7 @@ class RoundTrip(unittest.TestCase):
         for text in [EXAMPLE.encode()] + [text_beside(path) for path in EXAMPLES]:
             once = text_from_file(file_from_text(text))
             self.assertEqual(text_from_file(file_from_text(once)), once)
+        self.assertEqual(len(account_of(file_from_text(EXAMPLE.encode())).positions), 4)
 
 
 class Comments(unittest.TestCase):
@@ -159,38 +165,24 @@ class Form(unittest.TestCase):
 
     def test_faulty_counts_can_be_written(self):
         for text, refusal in ((SERIES_TEXT, 3), ('', 2), (SERIES_TEXT * 33, 2), ('held series=0 Q=1 PE=1', 2)):
-            self.assertEqual(trailer_fault(file_from_text(text.encode()))[0], refusal)
+            self.assertEqual(trailer_faults(file_from_text(text.encode()))[0].refusal, refusal)
 
 
-class Program(unittest.TestCase):
-    def test_commands(self):
-        command = [sys.executable, os.path.join(TOP, 'tools', 'account_text.py')]
-        text = subprocess.run(command + ['to-text', EXAMPLES[0]], capture_output=True, check=True).stdout
-        data = subprocess.run(command + ['to-file'], input=text, capture_output=True, check=True).stdout
-        self.assertEqual(data, bytes_of(EXAMPLES[0]))
-
-    def test_usage(self):
-        self.assertEqual(run(['-h']), (0, USAGE.encode(), ''))
-        for arguments in ([], ['to-fiel'], ['to-file', 'a', 'b']):
-            self.assertEqual(run(arguments), (2, b'', USAGE))
-        self.assertEqual(len(account_of(file_from_text(EXAMPLE.encode())).positions), 4)
-
-    def test_input_that_cannot_be_read(self):
-        status, output, errors = run(['to-file', os.path.join(TOP, 'examples', 'none.txt')])
-        self.assertEqual((status, output), (2, b''))
-        self.assertIn('none.txt: No such file or directory', errors)
-
-    def test_trailers(self):
+class Trailers(unittest.TestCase):
+    def test_sentences(self):
         data = file_with('held Q=1 PE=1')
         for faulty, sentence in (
                 (b'abc', '1 0: the file has 3 bytes, and an account file has 12 to 65536'),
+                (bytes(65_537), '1 0: the file has more than 65536 bytes, and an account file has 12 to 65536'),
                 (data[:-12] + b'\0' + data[-11:], '2 0: in the trailer the series count is 1 to 32, and here it is 0'),
                 (data[:-1] + b'\1', '2 0: in the trailer the ending is 00000000, and here it is 00000001'),
                 (data[:-10] + b'\0' + data[-9:], '3 0: the trailer counts no positions'),
                 (data[:-8] + b'\1' + data[-7:], '4 0: the distance in the trailer is 1, and its counts make it 68'),
                 (data[1:], '4 0: the distance in the trailer is 68, and the file has only 67 bytes')):
-            self.assertEqual(run(['to-text'], faulty), (1, b'', f'refused {sentence}\n'))
+            self.assertEqual(unreadable(faulty), f'refused {sentence}')
 
-
-if __name__ == '__main__':
-    unittest.main()
+    def test_the_longest_text_can_be_read(self):
+        data = b'\n' * (65_536 - 68) + file_with('held Q=1 PE=1')
+        text = text_from_file(data)
+        self.assertLess(len(text), LONGEST_TEXT)
+        self.assertEqual(file_from_text(text), data)

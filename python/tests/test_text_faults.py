@@ -1,19 +1,21 @@
-"""What account_text.py says of faulty texts: each fault with its line and field, and nothing on standard output."""
+"""What is said of faulty texts: each fault with its line and field."""
 import contextlib
 import random
 import unittest
 
-from account_lines import Unreadable
-from account_text import file_from_text, text_from_file
-from test_support import SERIES_TEXT, bytes_of, run
+from support import SERIES_TEXT, bytes_of
+
+from serpentgleam.lines import LONGEST_TEXT, Unreadable
+from serpentgleam.reports import legible
+from serpentgleam.text import file_from_text, text_from_file
 
 
 class Errors(unittest.TestCase):
     def check(self, text, *sentences):
         """These sentences are all that is said of the text."""
-        status, output, errors = run(['to-file'], text if isinstance(text, bytes) else text.encode())
-        self.assertEqual((status, output), (1, b''))
-        self.assertEqual(errors.split('\n'), [*sentences, ''])
+        with self.assertRaises(Unreadable) as raised:
+            file_from_text(text if isinstance(text, bytes) else text.encode())
+        self.assertEqual([legible(str(fault)) for fault in raised.exception.faults], list(sentences))
 
     def check_position(self, words, *sentences):
         """The same of a position line that follows one call series."""
@@ -59,9 +61,14 @@ class Errors(unittest.TestCase):
 
     def test_words(self):
         self.check(SERIES_TEXT.replace('\n', ' pv=1'), 'line 1, field pv: no such word in a series line, '
-                   'which takes call, put, type, PV, fa, fb, f3, M, spare')
+                   'which takes call, put, type, PV, fa, fb, f3, M, spare; did you mean PV?')
         self.check('serie call',
-                   'line 1, field serie: a line begins with one of cover, series, held, written, position')
+                   'line 1, field serie: a line begins with one of cover, series, held, written, position; '
+                   'did you mean series?')
+        self.check_position('held Q=1 PE=1 europaen', 'field europaen: no such word in a position line, which takes '
+                            'held, written, side, series, Q, PE, PB, PB-without-flag, up-and-in, down-and-in, '
+                            'up-and-out, down-and-out, kind, barrier-price, REB, premium, knocked-in, european, before-annex, '
+                            'other-flags, spare; did you mean european?')
         self.check_position('held Q=1 PE=1 european=1', 'field european: takes no value')
         self.check_position('held Q=1 PE=1 REB', 'field REB: needs a value, written REB=... without spaces')
         self.check_position('held Q=1 PE=', 'field PE: needs a value, written PE=... without spaces')
@@ -86,7 +93,8 @@ class Errors(unittest.TestCase):
     def test_all_faulty_lines_are_named_in_order(self):
         self.check('held Q=1\n' + SERIES_TEXT + 'wrote\nheld PE=x Q=1\n',
                    'line 1, field PE: missing',
-                   'line 3, field wrote: a line begins with one of cover, series, held, written, position',
+                   'line 3, field wrote: a line begins with one of cover, series, held, written, position; '
+                   'did you mean written?',
                    'line 4, field PE: x is not a whole number')
 
     def test_bytes_that_are_not_text(self):
@@ -96,6 +104,9 @@ class Errors(unittest.TestCase):
 
     def test_too_many_rows(self):
         self.check(SERIES_TEXT + 'held Q=1 PE=1\n' * 65_536, 'line 65537, field position: more than 65535 rows')
+
+    def test_too_long(self):
+        self.check(b'#' * (LONGEST_TEXT + 1), f'the text has more than {LONGEST_TEXT} bytes')
 
     def test_changed_texts_give_a_file_or_faults(self):
         source = random.Random(5)

@@ -1,0 +1,67 @@
+"""What the engine answers: the margin of an account, or the refusal of its file, whose sentences stand here."""
+from typing import NamedTuple, Tuple
+
+REASONS = {
+    1: 'the file has fewer than 12 or more than 65,536 bytes',
+    2: 'series count not 1 to 32, position count above 256, or one of the last four bytes not zero',
+    3: 'the account has no positions',
+    4: 'the distance to the first series row is not 12 + 24 x series + 32 x positions, or longer than the file',
+    5: 'a series row: PV, fa, fb, f3 or M outside its range',
+    6: 'a series row: type above 1, or a spare byte not zero',
+    7: 'a position row: series, side, kind, flags or a spare byte wrong',
+    8: 'a position row: Q, PE, REB or premium wrong',
+    9: 'a position row: PB wrong',
+    10: 'a position row: barrier price outside its rule or range, or REB without a barrier',
+    11: 'a position row: barrier on the wrong side of PV',
+    12: 'the list of lines has fewer entries than the account has positions',
+    13: 'there is no position row of the number asked for',
+}
+
+
+class Pair(NamedTuple):
+    """Contracts of a written row that are paired with a held row, and their amount in centavos."""
+    written: int
+    held: int
+    contracts: int
+    amount: int
+
+
+class Left(NamedTuple):
+    """Contracts of a row that stand in no pair, and their amount in centavos, 0 where the row is held."""
+    row: int
+    contracts: int
+    amount: int
+
+
+class Margin(NamedTuple):
+    """An account's margin: pairs as made, rows left in row order, premiums and total in centavos, these included."""
+    pairs: Tuple[Pair, ...]
+    left: Tuple[Left, ...]
+    premium: int
+    total: int
+
+
+class Refusal(NamedTuple):
+    """Why a file is refused: document 01's number, and the row from 0 on in its own table, 0 where none is meant."""
+    number: int
+    row: int
+
+    @property
+    def reason(self) -> str:
+        """The sentence of the number."""
+        return REASONS[self.number]
+
+    def __str__(self) -> str:
+        return f'refused {self.number} {self.row}: {self.reason}'
+
+
+class Refused(Exception):
+    """A file is refused, or has no such row. Has the number, row and reason of its `refusal`."""
+
+    def __init__(self, refusal: Refusal):
+        super().__init__(refusal)
+        self.refusal = refusal
+        self.number, self.row, self.reason = refusal.number, refusal.row, refusal.reason
+
+    def __str__(self) -> str:
+        return str(self.refusal)

@@ -1,0 +1,75 @@
+"""Finds and loads the shared object of the proved library, and says what its two calls take and give."""
+import ctypes
+import functools
+import os
+from typing import Callable, NamedTuple
+
+NAME = 'libserpentgleam.so.1'
+VARIABLE = 'SERPENTGLEAM_LIBRARY_SO'
+MOST_LINES = 256     # of any account
+LINE_NUMBERS = 5     # of one line
+
+
+class NotFound(Exception):
+    """The shared object is in none of its places, or cannot be loaded. The message says which they are."""
+
+
+class Result(ctypes.Structure):
+    """struct serpentgleam_result."""
+    _fields_ = [(name, ctypes.c_uint64) for name in ('refusal', 'row', 'lines', 'total')]
+
+
+def places():
+    """Where the shared object is looked for, the first that is there is taken; this is the only list of them.
+
+    An installation has the package in PREFIX/share/serpentgleam/serpentgleam and the shared object in PREFIX/lib; the
+    repository has them in python/serpentgleam and target/staticlib. NAME alone is where the operating system looks.
+    """
+    if os.environ.get(VARIABLE):
+        return [os.environ[VARIABLE]]
+    package = os.path.dirname(os.path.abspath(__file__))
+    two_above = os.path.dirname(os.path.dirname(package))
+    if os.path.basename(two_above) == 'share':
+        return [os.path.join(os.path.dirname(two_above), 'lib', NAME), NAME]
+    return [os.path.join(two_above, 'target', 'staticlib', NAME), NAME]
+
+
+def load():
+    """The shared object of the first place that has one."""
+    tried = []
+    for place in places():
+        if os.sep in place and not os.path.exists(place):
+            tried.append(f'{place}: not there')
+            continue
+        try:
+            return ctypes.CDLL(place)
+        except OSError as error:
+            tried.append(str(error) if place in str(error) else f'{place}: {error}')
+    raise NotFound('the shared object of the library is not found (' + '; '.join(tried) + '). '
+                   f'In the repository library/shared_object.sh makes it; {VARIABLE} names another')
+
+
+class Calls(NamedTuple):
+    """The library's calls by their names in the C header, without its prefix."""
+    margin: Callable
+    position_amount: Callable
+
+
+@functools.lru_cache(maxsize=None)
+def calls():
+    """The calls of the shared object. Bytes are handed over without a copy."""
+    shared = load()
+    try:
+        loaded = Calls(*(shared['serpentgleam_' + name] for name in Calls._fields))
+    except AttributeError as error:
+        raise NotFound(f'the shared object is not that of the library: {error}') from error
+    loaded.margin.argtypes = [ctypes.c_char_p, ctypes.c_size_t, ctypes.c_void_p, ctypes.c_size_t]
+    loaded.margin.restype = Result
+    loaded.position_amount.argtypes = [ctypes.c_char_p, ctypes.c_size_t, ctypes.c_uint64]
+    loaded.position_amount.restype = ctypes.c_int64
+    return loaded
+
+
+def list_of_lines():
+    """A list that has room for the lines of any account, as C sees it."""
+    return (ctypes.c_uint64 * (MOST_LINES * LINE_NUMBERS))()

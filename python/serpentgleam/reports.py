@@ -1,0 +1,108 @@
+"""Answers as text, as JSON Lines and as CSV. Each gives bytes; names of files are as in sys.argv."""
+import csv
+import io
+import json
+import os
+from typing import NamedTuple
+
+from .answers import Margin, Refusal
+from .faults import Fault
+
+ESCAPES = str.maketrans({'\\': '\\\\', '\t': '\\t', '\n': '\\n', '\r': '\\r'})
+ANSWER_FIELDS = ('file', 'kind', 'written', 'held', 'row', 'contracts', 'amount', 'number', 'reason')
+FAULT_FIELDS = ('file', *Fault._fields)
+
+
+class Amount(NamedTuple):
+    """One position's amount."""
+    row: int
+    amount: int
+
+
+def line_records(margin):
+    """The lines of a margin, each by the names of its fields in the order of the printed line."""
+    return ([{'kind': 'pair', **pair._asdict()} for pair in margin.pairs]
+            + [{'kind': 'left', **left._asdict()} for left in margin.left])
+
+
+def refusal_record(refusal):
+    """A refusal by the names of its fields."""
+    return {'number': refusal.number, 'row': refusal.row, 'reason': refusal.reason}
+
+
+def records(answer):
+    """All that is printed of an answer, each line by the names of its fields in the order of the line."""
+    if isinstance(answer, Refusal):
+        return [{'kind': 'refused', **refusal_record(answer)}]
+    if isinstance(answer, Amount):
+        return [{'kind': 'amount', **answer._asdict()}]
+    return line_records(answer) + [{'kind': 'premium', 'amount': answer.premium},
+                                   {'kind': 'total', 'amount': answer.total}]
+
+
+class PlainText:
+    """A line for each line of the answer, after the file's name and a tab; the sentence of a refusal after another."""
+    answer_header = fault_header = b''
+
+    def answer(self, name, answer):
+        """The lines of a file's answer."""
+        before = os.fsencode(name.translate(ESCAPES)) + b'\t'
+        return b''.join(before + self.line(record).encode() for record in records(answer))
+
+    def line(self, record):
+        """A line as the program margin prints it."""
+        reason = '\t' + record.pop('reason') if 'reason' in record else ''
+        return ' '.join(map(str, record.values())) + reason + '\n'
+
+    def faults(self, name, faults):
+        """A line for each fault."""
+        before = os.fsencode(name.translate(ESCAPES)) + b': '
+        return b''.join(before + legible(str(fault)).encode() + b'\n' for fault in faults)
+
+
+class JsonLines:
+    """An object for each file. In a name, bytes that are not UTF-8 are \\xNN, and file_hex has all its bytes then."""
+    answer_header = fault_header = b''
+
+    def object(self, name, fields):
+        """A line with the file's name and the fields."""
+        encoded = os.fsencode(name)
+        try:
+            names = {'file': encoded.decode('utf-8')}
+        except UnicodeDecodeError:
+            names = {'file': encoded.decode('utf-8', 'backslashreplace'), 'file_hex': encoded.hex()}
+        return json.dumps({**names, **fields}).encode() + b'\n'
+
+    def answer(self, name, answer):
+        if isinstance(answer, Margin):
+            return self.object(name, {'lines': line_records(answer), 'premium': answer.premium, 'total': answer.total})
+        if isinstance(answer, Refusal):
+            return self.object(name, {'refused': refusal_record(answer)})
+        return self.object(name, answer._asdict())
+
+    def faults(self, name, faults):
+        return self.object(name, {'faults': [fault._asdict() for fault in faults]})
+
+
+class Csv:
+    """A row for each line of the answer or each fault, under a row of the fields' names. Files have their own bytes."""
+    answer_header = (','.join(ANSWER_FIELDS) + '\n').encode()
+    fault_header = (','.join(FAULT_FIELDS) + '\n').encode()
+
+    def rows(self, fields, name, rows):
+        file = os.fsencode(name).decode('utf-8', 'surrogateescape')
+        written = io.StringIO()
+        csv.writer(written, lineterminator='\n').writerows(
+            [file, *(row.get(field) for field in fields[1:])] for row in rows)
+        return written.getvalue().encode('utf-8', 'surrogateescape')
+
+    def answer(self, name, answer):
+        return self.rows(ANSWER_FIELDS, name, records(answer))
+
+    def faults(self, name, faults):
+        return self.rows(FAULT_FIELDS, name, [fault._asdict() for fault in faults])
+
+
+def legible(text):
+    """The text with what a screen would not show written as its number."""
+    return ''.join(character if character.isprintable() else f'\\u{ord(character):04x}' for character in text)

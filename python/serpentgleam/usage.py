@@ -1,0 +1,99 @@
+"""What the command says of itself."""
+from .text import EXAMPLE
+
+COMMAND = '''usage: serpentgleam COMMAND ..
+
+  margin FILE..          pairs, rows left, premium and total of account files, or why they are refused
+  position FILE ROW      the amount of one position row by itself
+  check FILE..           every fault of texts and account files, with line, row and field
+  to-text [FILE]         an account file as text
+  to-file [TEXT]         the account file of a text
+  COMMAND --help         what a command takes
+  --version
+
+Amounts are whole centavos; rows are counted from 0. Status 0: all accepted; 1: something refused or faulty; 2: a wrong
+word, or a file that cannot be read or written.
+'''
+
+FORMS = '''  --json                 JSON Lines, an object for each file
+  --csv                  CSV, the first row names the fields
+  -o, --output OUTPUT    into this file, which appears whole when all is done or not at all
+'''
+
+NAMES = '''  FILE                   - is standard input
+  --from LIST            the files whose names stand in LIST, a line for each; - is standard input
+  -0, --null             names in LIST end in a zero byte, as find -print0 writes them
+'''
+
+QUIET = '''  -q, --quiet            no summary on standard error
+'''
+
+MARGIN = '''usage: serpentgleam margin [--json | --csv] [-o OUTPUT] [-q] [--from LIST [-0]] [FILE..]
+
+Prints each line of an answer after its file's name and a tab: as the program margin prints it, and the sentence of a
+refusal after another tab. A summary stands on standard error. A file that cannot be read is named there and has no
+answer; the others are answered.
+
+''' + NAMES + FORMS + QUIET + '''
+Text     pair WRITTEN-ROW HELD-ROW CONTRACTS AMOUNT, left ROW CONTRACTS AMOUNT, premium AMOUNT, total AMOUNT, or
+         refused NUMBER ROW. In a file's name \\t \\n \\r \\\\ are a tab, line feed, carriage return and backslash.
+JSON     file, lines (each with kind, written, held, contracts and amount, or kind, row, contracts and amount), premium,
+         total; or file and refused (number, row, reason). Amounts can be above 2^53, which not every reader of JSON
+         takes whole. In a name, bytes that are not UTF-8 are written \\xNN, and file_hex has all its bytes.
+CSV      file, kind (pair, left, premium, total or refused), written, held, row, contracts, amount, number, reason.
+
+Several processes may write to one pipe or file: none writes into another's answer.
+'''
+
+POSITION = '''usage: serpentgleam position [--json | --csv] [-o OUTPUT] FILE ROW
+
+Prints the file's name, a tab and amount ROW AMOUNT: of a written position its margin by itself, of a held one its
+unsettled premium. Or refused NUMBER ROW, and after a tab why; the number is 13 where there is no such row.
+
+  FILE                   - is standard input
+''' + FORMS
+
+CHECK = '''usage: serpentgleam check [--json | --csv] [-o OUTPUT] [-q] [--from LIST [-0]] [FILE..]
+
+Prints every fault of texts and account files, with the file's name, the line of a text, the row, the field and the
+number of the refusal, where it has them. Nothing else is written. The engine's own answer decides: where it is not the
+first fault, it is printed too. Files whose names end in .txt are texts, in .account account files; others are texts
+where they have no zero byte.
+
+''' + NAMES + FORMS + QUIET + '''
+JSON     file, faults (each with line, table, row, field, refusal, sentence; null where it has none)
+CSV      file, line, table, row, field, refusal, sentence; a row for each fault
+'''
+
+TO_TEXT = '''usage: serpentgleam to-text [-o OUTPUT] [FILE]
+
+Writes an account file as text; without FILE that of standard input. Under a row that is out of order stands why, with
+the number of the refusal: a help for reading, the engine's own answer decides. Back through to-file the text gives the
+same bytes. A file refused with 1 to 4 has no rows to show; then one sentence says what is wrong with its trailer.
+
+  -o, --output OUTPUT    into this file, which appears whole when all is done or not at all
+'''
+
+TO_FILE = '''usage: serpentgleam to-file [-o OUTPUT] [TEXT]
+
+Writes the account file of a text; without TEXT that of standard input. A faulty text gives no file: each fault is named
+with line and field. A text that breaks a rule of document 01 gives its file, and each rule is named on standard error.
+
+  -o, --output OUTPUT    into this file, which appears whole when all is done or not at all
+
+The text:
+''' + EXAMPLE + r'''
+One line a series, one a position, # begins a comment. After the first word the words are in any order. Series rows and
+position rows are each counted from 0 in the order of their lines.
+
+series         call or put, PV, fa, fb, f3, M. A factor is always a decimal with its point and at most six places (1.0,
+               0.05): without the point it is an error, so that nobody takes 1200000 millionths for a factor of 1200000.
+held, written  series (may be left out where there is only one), Q, PE; if the position has it PB (the limiter), one
+               barrier with its price (up-and-in=, down-and-in=, up-and-out= or down-and-out=), REB, premium, and the
+               words knocked-in (already), european, before-annex (opened before it).
+cover          text="..." with \n \r \t \" \\ for what cannot stand there, or hex=...; several lines follow one another.
+
+Raw values, for rows that document 01 refuses: type=7 in place of call or put; position side=3 in place of held or
+written; kind=9 and barrier-price=3500 in place of a barrier; PB-without-flag=3300; other-flags=144 for flags that have
+no word; spare=01ff00. Every value is written that fits its field.
+'''

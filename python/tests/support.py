@@ -1,0 +1,68 @@
+"""What the tests of the package and the command share: the files they are run on, and the command run as a process."""
+import glob
+import os
+import subprocess
+import sys
+import tempfile
+
+TOP = os.path.dirname(os.path.dirname(os.path.dirname(os.path.abspath(__file__))))
+sys.path[:0] = [os.path.join(TOP, 'python'), os.path.join(TOP, 'tests')]
+
+from account_batch import vectors  # noqa: E402
+
+from serpentgleam.faults import trailer_faults  # noqa: E402
+from serpentgleam.layout import account_of  # noqa: E402
+from serpentgleam.text import file_from_text  # noqa: E402
+
+COMMAND = [sys.executable, os.path.join(TOP, 'python', 'bin', 'serpentgleam')]
+EXAMPLES = sorted(glob.glob(os.path.join(TOP, 'examples', '*.account')))
+DOCUMENT = os.path.join(TOP, 'examples', 'document.account')
+WRONG_SIDE = os.path.join(TOP, 'examples', 'wrong_side.account')
+SERIES_TEXT = 'series call PV=3000 fa=1.2 fb=0.8 f3=0.05 M=5\n'
+
+
+def bytes_of(*path):
+    """What a file has, by its path or by its parts from the top of the repository."""
+    with open(os.path.join(TOP, *map(os.fsdecode, path)), 'rb') as source:
+        return source.read()
+
+
+VECTORS = vectors()
+LAID_OUT = [(data, answer) for data, answer in VECTORS if not trailer_faults(data)]
+
+
+def command(*words, data=b'', **options):
+    """Exit status, standard output and standard error of the command."""
+    run = subprocess.run([*COMMAND, *words], input=data, stdout=options.pop('stdout', subprocess.PIPE),
+                         stderr=subprocess.PIPE, timeout=120, check=False, **options)
+    return run.returncode, run.stdout, run.stderr.decode()
+
+
+def folder(test):
+    """A folder that is there while a test runs."""
+    made = tempfile.TemporaryDirectory()
+    test.addCleanup(made.cleanup)
+    return made.name
+
+
+def written(path, data):
+    """The path, after the bytes are written there."""
+    with open(path, 'wb') as file:
+        file.write(data)
+    return path
+
+
+def file_with(text):
+    """The file of a text that begins with one call series."""
+    return file_from_text((SERIES_TEXT + text).encode())
+
+
+def row_with(text):
+    """The first position row of such a file."""
+    return account_of(file_with(text)).positions[0]
+
+
+def long_account():
+    """An account whose answer has more than 4,096 bytes, which is what a pipe takes in one piece."""
+    return file_with(''.join(f'{"held" if row % 2 else "written"} Q={row + 1} PE={3100 + row} european\n'
+                             for row in range(256)))

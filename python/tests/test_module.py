@@ -1,0 +1,128 @@
+"""The module: margins, amounts and refusals of the library, on any threads, and what it says where it is not found."""
+import concurrent.futures
+import doctest
+import os
+import pickle
+import re
+import subprocess
+import sys
+import unittest
+
+from support import DOCUMENT, TOP, VECTORS, WRONG_SIDE, bytes_of, folder, long_account, written
+
+import serpentgleam
+from serpentgleam import Left, Margin, Pair, Refusal, Refused, engine
+from serpentgleam.library import NAME, VARIABLE
+
+THREE_ROWS = Margin((Pair(0, 2, 3, 0), Pair(0, 1, 4, 3000)), (Left(0, 3, 7500),), 300, 10_800)
+
+
+def printed(answer):
+    """The answer as the program margin prints it."""
+    if isinstance(answer, Refusal):
+        return f'refused {answer.number} {answer.row}'
+    lines = [f'pair {pair.written} {pair.held} {pair.contracts} {pair.amount}' for pair in answer.pairs]
+    lines += [f'left {left.row} {left.contracts} {left.amount}' for left in answer.left]
+    return '\n'.join(lines + [f'premium {answer.premium}', f'total {answer.total}'])
+
+
+class Answers(unittest.TestCase):
+    def test_document(self):
+        self.assertEqual(serpentgleam.margin(bytes_of(DOCUMENT)), THREE_ROWS)
+
+    def test_vectors(self):
+        for data, answer in VECTORS:
+            self.assertEqual(printed(serpentgleam.margin_or_refusal(data)), answer)
+
+    def test_bytes_like(self):
+        data = bytes_of(DOCUMENT)
+        for like in (bytearray(data), memoryview(data), memoryview(b'x' + data)[1:]):
+            self.assertEqual(serpentgleam.margin(like), THREE_ROWS)
+        for other in ('text', None, 7, [1, 2]):
+            self.assertRaises(TypeError, serpentgleam.margin, other)
+
+    def test_lengths(self):
+        for data in (b'', b'\0' * 11, bytes(65_537), bytes(1_000_000)):
+            self.assertEqual(serpentgleam.margin_or_refusal(data), Refusal(1, 0))
+
+    def test_a_long_answer_leaves_nothing_for_the_next(self):
+        self.assertEqual(len(serpentgleam.margin(long_account()).left + serpentgleam.margin(long_account()).pairs), 256)
+        self.assertEqual(serpentgleam.margin(bytes_of(DOCUMENT)), THREE_ROWS)
+
+    def test_threads(self):
+        files = [data for data, _ in VECTORS[:700]] * 3
+        with concurrent.futures.ThreadPoolExecutor(8) as threads:
+            together = list(threads.map(serpentgleam.margin_or_refusal, files))
+        self.assertEqual(together, [serpentgleam.margin_or_refusal(data) for data in files])
+
+
+class Docstrings(unittest.TestCase):
+    def test_their_examples(self):
+        self.addCleanup(os.chdir, os.getcwd())
+        os.chdir(TOP)
+        tried = doctest.testmod(engine)
+        self.assertEqual((tried.failed, tried.attempted > 0), (0, True))
+
+
+class Refusals(unittest.TestCase):
+    def test_number_row_and_reason(self):
+        with self.assertRaises(Refused) as raised:
+            serpentgleam.margin(bytes_of(WRONG_SIDE))
+        refused = raised.exception
+        self.assertEqual((refused.number, refused.row, refused.refusal), (11, 2, Refusal(11, 2)))
+        self.assertEqual(refused.reason, 'a position row: barrier on the wrong side of PV')
+        self.assertEqual(str(refused), 'refused 11 2: a position row: barrier on the wrong side of PV')
+
+    def test_between_processes(self):
+        again = pickle.loads(pickle.dumps(Refused(Refusal(8, 3))))
+        self.assertEqual((again.number, again.row, again.reason), (8, 3, serpentgleam.REASONS[8]))
+
+    def test_every_number_has_a_sentence(self):
+        self.assertEqual(list(serpentgleam.REASONS), list(range(1, 14)))
+
+
+class Amounts(unittest.TestCase):
+    def test_document(self):
+        self.assertEqual([serpentgleam.position_amount(bytes_of(DOCUMENT), row) for row in range(3)], [25_000, 0, 300])
+
+    def test_rows_that_are_not_there(self):
+        for row in (3, 256, 257, 2 ** 64 - 1, 2 ** 64, 2 ** 64 + 1, 10 ** 30):
+            with self.assertRaises(Refused) as raised:
+                serpentgleam.position_amount(bytes_of(DOCUMENT), row)
+            self.assertEqual(raised.exception.refusal, Refusal(13, 0))
+        self.assertRaises(ValueError, serpentgleam.position_amount, bytes_of(DOCUMENT), -1)
+        self.assertRaises(TypeError, serpentgleam.position_amount, bytes_of(DOCUMENT), 1.0)
+
+    def test_refused_files_have_the_margin_s_refusal(self):
+        for data, answer in VECTORS:
+            if answer.startswith('refused'):
+                with self.assertRaises(Refused) as raised:
+                    serpentgleam.position_amount(data, 0)
+                self.assertEqual(printed(raised.exception.refusal), answer)
+
+
+class Library(unittest.TestCase):
+    def error(self, **environment):
+        """What the first call says where the environment is so."""
+        code = ('import serpentgleam\ntry:\n    serpentgleam.margin(b"")\n'
+                'except (serpentgleam.NotFound, serpentgleam.Refused) as error:\n    print(error)')
+        run = subprocess.run([sys.executable, '-c', code], cwd=os.path.join(TOP, 'python'), capture_output=True,
+                             env={**os.environ, **environment}, check=True)
+        return run.stdout.decode()
+
+    def test_named_by_the_variable(self):
+        built = os.path.join(TOP, 'target', 'staticlib', NAME)
+        self.assertRegex(self.error(**{VARIABLE: built}), '^refused 1 0')
+
+    def test_not_there(self):
+        self.assertRegex(self.error(**{VARIABLE: '/none/x.so'}), r'not found \(/none/x\.so: not there\)')
+
+    def test_another_file(self):
+        place = folder(self)
+        no_library = written(os.path.join(place, 'x.so'), b'no library')
+        self.assertRegex(self.error(**{VARIABLE: no_library}), re.escape(no_library) + '.*file too short')
+        self.assertIn('not that of the library', self.error(**{VARIABLE: 'libc.so.6'}))
+
+
+if __name__ == '__main__':
+    unittest.main()
