@@ -7,9 +7,9 @@ ROOT = Path(__file__).resolve().parents[2]
 MARGIN = ROOT / 'target' / 'bin' / 'margin'
 
 # The text form of an account. This is the one place that says where its modules are.
-sys.path.insert(0, str(ROOT / 'tools'))
-from account_layout import file_of
-from account_lines import read_account
+sys.path.insert(0, str(ROOT / 'python'))
+from serpentgleam.layout import file_of
+from serpentgleam.lines import read_account
 
 
 def file_from_text(text, trailer=None):
