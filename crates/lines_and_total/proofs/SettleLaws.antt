@@ -23,7 +23,7 @@ use Rattle.rules.proofs.LineLaws.{length-pairLines, line-count, lines-are, sum-
 use Rattle.rules.proofs.Rounds.{left-falls}
 use Rattle.rules.proofs.Sums.{sumOver-append, sumTo-same}
 use Rattle.rules.specs.File.{Account, accountOf}
-use Rattle.rules.specs.Lines.{leftLines, lineAmount, lines, pairLines, premiums, sumOver, total}
+use Rattle.rules.specs.Lines.{leftLines, lineAmount, lines, pairLines, premiumAnswer, premiums, premiumsOf, sumOver, total}
 use Rattle.rules.specs.Pairs.{available, bookOf, contractsAfter, pairsAfter}
 use Rattle.rules.specs.Refusals.{fileRead}
 use Rattle.rules.specs.declared.FileRead.{FileRead}
@@ -101,6 +101,10 @@ account-listed b l n₀ left n n′ t t′ k en p f =
       total-most = omega (arith, f .total-most, f .count-is, p .total-most, count, few, k .placed .positions-most);
       numbers-length = f .numbers-length ∙ en;
     }
+
+pub premium-answered : (b : List ℕ) (x : FileRead) → fileRead b ≡ x → premiumAnswer b ≡ premiumsOf b x
+unfolding premiumAnswer
+premium-answered b x e = ap (premiumsOf b) e
 
 pub premiums-read : (b : List ℕ) (x : FileRead) → fileRead b ≡ x → premiumsFor b (fileRead b) ≡ premiumsFor b x
 premiums-read b x e = ap (premiumsFor b) e

@@ -2,6 +2,7 @@
 use crate::listing::list_lines;
 use crate::premium::premium_sum;
 use account::reader::read_file;
+use rules::AmountAnswer;
 use rules::FileRead;
 use rules::Layout;
 use rules::MarginAnswer;
@@ -10,6 +11,7 @@ ghost use lib.ListN.{length};
 ghost use mathlib.Core.Path.{_≡_};
 ghost use Rattle.lines.specs.LineNumbers.{lineCount, mostNumbers};
 ghost use Rattle.lines_and_total.specs.Settled.{Settled};
+ghost use Rattle.rules.specs.Lines.{premiumAnswer};
 ghost use Rattle.rules.specs.Output.{premiumsFor};
 ghost use Rattle.rules.specs.Refusals.{fileRead};
 ghost use Rattle.rules.specs.declared.FileRead.the-variants.{Accepted};
@@ -50,6 +52,16 @@ pub fn line_count(answer: MarginAnswer) -> usize
     match answer {
         MarginAnswer::Total(count, _) => count,
         MarginAnswer::NoTotal(_, _) => 0,
+    }
+}
+
+// The premiums of a file's held rows, or its refusal.
+pub fn premium_answer(file: &[u8]) -> AmountAnswer
+    ensures { λ r. ⌜ r ≡ premiumAnswer (now (file .entry)) ⌝ }
+{
+    match read_file(file) {
+        FileRead::Accepted(l) => AmountAnswer::Amount(premium_sum(file, l)),
+        FileRead::Refused(why, at) => AmountAnswer::NoAmount(why, at),
     }
 }
 

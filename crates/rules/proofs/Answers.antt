@@ -1,5 +1,5 @@
 -- What the operations answer, for every file and every list: the laws that a client can cite. An operation's contract says
--- that it answers `marginAnswer`, `listAfter` and `signedAnswer (amountAnswer ..)`; these laws say what those are. The same
+-- that it answers `marginAnswer`, `listAfter`, `signedAnswer (amountAnswer ..)` and `premiumAnswer`; these laws say what those are. The same
 -- of the numbers that a C program is given is in crate serpentgleam, proofs/AnswerNumbers.antt.
 -- Assumes nothing.
 use Prim.Native.Nat.{ℕ, _≤_, _<_}
@@ -17,9 +17,10 @@ use Rattle.rules.proofs.LineLaws.{line-count, lines-are}
 use Rattle.rules.proofs.Reading.{accepted-within, within-accepted, within-read}
 use Rattle.rules.specs.File.{Account, accountOf, layout, positionCount}
 use Rattle.rules.specs.Limits.{FileWithin}
-use Rattle.rules.specs.Lines.{lines, linesFor, linesGiven, listAfter, marginAnswer, marginForList, mostLines, total}
+use Rattle.rules.specs.Lines.{lines, linesFor, linesGiven, listAfter, marginAnswer, marginForList, mostLines, premiumAnswer, premiums, premiumsOf, total}
 use Rattle.rules.specs.OnePosition.{amountAnswer, amountForRow, positionAmount, signedAnswer}
 use Rattle.rules.specs.Refusals.{accepted, fileRead, meaning, meant, number, refused}
+use Rattle.rules.specs.declared.AmountAnswer.the-variants.{Amount, NoAmount}
 use Rattle.rules.specs.declared.FileRead.{FileRead}
 use Rattle.rules.specs.declared.FileRead.the-variants.{Accepted, Refused}
 use Rattle.rules.specs.declared.Layout.{Layout}
@@ -204,3 +205,16 @@ module _ (b : List ℕ) where
   amount-refused k i e row =
       let r = refused-read k i e in
       ap (λ (x : FileRead). signedAnswer (amountForRow b row x)) (r .2) ∙ ap (λ (x : ℕ). negℤ (pos x)) (r .1)
+
+  -- The premiums of an accepted file are its account's; a refused file gives its number and row.
+  pub premium-accepted : (a : Account) → meaning b ≡ accepted a → premiumAnswer b ≡ Amount (premiums a)
+  unfolding premiumAnswer
+  premium-accepted a e =
+      let k = accepted-read a e in
+      rw (k .0, k .1)
+
+  pub premium-refused : (k i : ℕ) → meaning b ≡ refused k i → (w : Refusal) × (number w ≡ k) × (premiumAnswer b ≡ NoAmount w i)
+  unfolding premiumAnswer
+  premium-refused k i e =
+      let r = refused-read k i e in
+      (r .0, r .1, ap (premiumsOf b) (r .2))

@@ -10,6 +10,8 @@ use Rattle.rules.specs.OnePosition.{amountOf, premiumOf, unitMargin}
 use Rattle.rules.specs.Pairs.{Made, contractsAfter, pairsAfter}
 use Rattle.rules.specs.Refusals.{fileRead}
 use Rattle.rules.specs.Spreads.{unitSpread}
+use Rattle.rules.specs.declared.AmountAnswer.{AmountAnswer}
+use Rattle.rules.specs.declared.AmountAnswer.the-variants.{Amount, NoAmount}
 use Rattle.rules.specs.declared.FileRead.{FileRead}
 use Rattle.rules.specs.declared.FileRead.the-variants.{Accepted, Refused}
 use Rattle.rules.specs.declared.Line.{Line}
@@ -104,6 +106,14 @@ heldPremium Written s p = 0
 
 unfoldable pub premiums : Account → ℕ
 premiums a = sumTo (λ r. heldPremium (a .positionAt r .side) (seriesOfRow a r) (a .positionAt r)) (a .positions)
+
+-- A file's premiums by themselves: those of its account, or its refusal.
+abbrev pub premiumsOf : List ℕ → FileRead → AmountAnswer
+premiumsOf b (Refused w i) = NoAmount w i
+premiumsOf b (Accepted l) = Amount (premiums (accountOf b l))
+
+unfoldable pub premiumAnswer : List ℕ → AmountAnswer
+premiumAnswer b = premiumsOf b (fileRead b)
 
 -- "Total = line amounts + premium × M × Q of every held row", after n rounds and of the account.
 abbrev pub totalAfter : Account → ℕ → ℕ

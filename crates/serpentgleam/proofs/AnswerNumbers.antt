@@ -1,18 +1,18 @@
--- What `serpentgleam_margin` tells a C program, for every file and every list: the numbers of `rules`' Answers.
+-- What the operations tell a C program, for every file and every list: the numbers of `rules`' Answers.
 -- Assumes nothing.
 use Prim.Native.Nat.{ℕ, _≤_, _<_}
 use mathlib.Core.List.{List}
 use mathlib.Core.Path.{_≡_, refl, sym, ap, _∙_, subst}
 use native.Mathlib.Omega.{arith}
 use lib.ListN.{length}
-use Rattle.rules.proofs.Answers.{margin-accepted, margin-refused, margin-short, number-range, room-enough}
+use Rattle.rules.proofs.Answers.{margin-accepted, margin-refused, margin-short, number-range, premium-accepted, premium-refused, room-enough}
 use Rattle.rules.proofs.Demand3.{answered}
 use Rattle.rules.specs.File.{Account}
-use Rattle.rules.specs.Lines.{lines, marginAnswer, total}
+use Rattle.rules.specs.Lines.{lines, marginAnswer, premiumAnswer, premiums, total}
 use Rattle.rules.specs.Refusals.{accepted, meaning, number, refused}
 use Rattle.rules.specs.declared.MarginAnswer.{MarginAnswer}
 use Rattle.rules.specs.declared.MarginAnswer.the-variants.{NoTotal, Total}
-use Rattle.serpentgleam.specs.MarginNumbers.{marginNumbers}
+use Rattle.serpentgleam.specs.MarginNumbers.{answerNumbers, marginNumbers}
 
 module _ (b : List ℕ) (n : ℕ) where
   -- An accepted file and a list of at least p entries: refusal 0, row 0, the line count and the total.
@@ -43,3 +43,15 @@ module _ (b : List ℕ) (n : ℕ) where
       go (NoTotal w i) e =
           let y : number w ≡ 0 = sym (ap (λ (x : MarginAnswer). marginNumbers x .refusal) e) ∙ z in
           absurd (omega (arith, number-range w))
+
+-- The premiums that `serpentgleam_premiums` tells: of an accepted file its account's, of a refused one its number and row.
+module _ (b : List ℕ) where
+  pub accepted-premiums : (a : Account) → meaning b ≡ accepted a
+      → answerNumbers (premiumAnswer b) ≡ record { refusal = 0; row = 0; value = premiums a }
+  accepted-premiums a e = ap answerNumbers (premium-accepted b a e)
+
+  pub refused-premiums : (k row : ℕ) → meaning b ≡ refused k row
+      → answerNumbers (premiumAnswer b) ≡ record { refusal = k; row = row; value = 0 }
+  refused-premiums k row e =
+      let r = premium-refused b k row e in
+      ap answerNumbers (r .2) ∙ ap (λ (x : ℕ). record { refusal = x; row = row; value = 0 }) (r .1)

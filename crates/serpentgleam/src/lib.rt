@@ -3,17 +3,19 @@
 use lent::write_entries;
 use lines::MOST_NUMBERS;
 use lines_and_total::line_count;
+use lines_and_total::premium_answer;
 use lines_and_total::settle;
 use position::amount::amount_for_row;
 use position::answer::signed;
 use refusals::refusal_number;
+use rules::AmountAnswer;
 use rules::Line;
 use rules::MarginAnswer;
 ghost use lib.ListN.{length};
 ghost use mathlib.Core.Path.{_≡_};
-ghost use Rattle.rules.specs.Lines.{listAfter, marginAnswer};
+ghost use Rattle.rules.specs.Lines.{listAfter, marginAnswer, premiumAnswer};
 ghost use Rattle.rules.specs.OnePosition.{amountAnswer, signedAnswer};
-ghost use Rattle.serpentgleam.specs.MarginNumbers.{marginNumbers};
+ghost use Rattle.serpentgleam.specs.MarginNumbers.{answerNumbers, marginNumbers};
 
 // A file's margin as numbers, the header's `serpentgleam_result`: 0, 0, the line count and the total in centavos; or the
 // refusal's number, its row, 0 and 0.
@@ -45,6 +47,31 @@ fn numbers_of(answer: MarginAnswer) -> Margin
     }
 }
 
+// A number asked of a file, the header's `serpentgleam_answer`: 0, 0 and the number; or the refusal's number, its row and 0.
+#[repr(C)]
+pub struct Answer {
+    pub refusal: u64,
+    pub row: u64,
+    pub value: u64,
+}
+
+fn answer_of(answer: AmountAnswer) -> Answer
+    ensures { λ r. ⌜ r ≡ answerNumbers answer ⌝ }
+{
+    match answer {
+        AmountAnswer::Amount(value) => Answer {
+            refusal: 0,
+            row: 0,
+            value,
+        },
+        AmountAnswer::NoAmount(why, row) => Answer {
+            refusal: refusal_number(why) as u64,
+            row: row as u64,
+            value: 0,
+        },
+    }
+}
+
 // A file's margin, and its lines in the caller's list.
 #[no_mangle]
 pub extern "C" fn serpentgleam_margin(file: &[u8], lines: &mut [Line]) -> Margin
@@ -65,4 +92,12 @@ pub extern "C" fn serpentgleam_position_amount(file: &[u8], row: u64) -> i64
     ensures { λ r. ⌜ r ≡ signedAnswer (amountAnswer (now (file .entry)) row) ⌝ }
 {
     signed(amount_for_row(file, row))
+}
+
+// The unsettled premiums of all held rows of the file, in centavos, or its refusal. Any bytes may be handed over.
+#[no_mangle]
+pub extern "C" fn serpentgleam_premiums(file: &[u8]) -> Answer
+    ensures { λ r. ⌜ r ≡ answerNumbers (premiumAnswer (now (file .entry))) ⌝ }
+{
+    answer_of(premium_answer(file))
 }
