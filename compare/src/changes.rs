@@ -1,6 +1,6 @@
 //! Deliberately changed answers, to see that the comparison finds them.
 
-use crate::implementation::{Implementation, Line, Margin};
+use crate::implementation::{Answer, Implementation, Line, Margin};
 
 #[derive(Clone, Copy, Debug, PartialEq, Eq)]
 pub enum Change {
@@ -16,11 +16,13 @@ pub enum Change {
     ListOnRefusal,
     Amount,
     MissingRow,
+    Premiums,
+    PremiumsRefused,
     FileWritten,
     ReadingOutside,
 }
 
-pub const CHANGES: [(&str, Change); 14] = [
+pub const CHANGES: [(&str, Change); 16] = [
     ("total", Change::Total),
     ("line-count", Change::LineCount),
     ("line-amount", Change::LineAmount),
@@ -33,6 +35,8 @@ pub const CHANGES: [(&str, Change); 14] = [
     ("list-on-refusal", Change::ListOnRefusal),
     ("amount", Change::Amount),
     ("missing-row", Change::MissingRow),
+    ("premiums", Change::Premiums),
+    ("premiums-refused", Change::PremiumsRefused),
     ("file-written", Change::FileWritten),
     ("reading-outside", Change::ReadingOutside),
 ];
@@ -73,6 +77,16 @@ impl Implementation for Changed<'_> {
             (Change::Amount, amount) if amount > 0 => amount - 1,
             (Change::MissingRow, -13) => 0,
             (_, amount) => amount,
+        }
+    }
+
+    fn premiums(&self, file: &[u8]) -> Answer {
+        touch(file, self.change);
+        let answer = self.of.premiums(file);
+        match self.change {
+            Change::Premiums if answer.value > 0 => Answer { value: answer.value - 1, ..answer },
+            Change::PremiumsRefused => Answer { refusal: 0, ..answer },
+            _ => answer,
         }
     }
 }

@@ -5,7 +5,7 @@ use std::fmt;
 use reference::reader::read_account;
 
 use crate::files::File;
-use crate::implementation::{Implementation, Line, Margin};
+use crate::implementation::{self, Implementation, Line, Margin};
 use crate::lending::Lending;
 use crate::questions::{questions, Question};
 use crate::summary::Summary;
@@ -18,6 +18,7 @@ pub enum Answer {
     /// With the whole list as it was left, and the entries after it.
     Margin(Margin, Vec<Line>),
     Amount(i64),
+    Premiums(implementation::Answer),
 }
 
 #[derive(Clone, Debug, PartialEq, Eq)]
@@ -64,6 +65,7 @@ fn answer(implementation: &dyn Implementation, file: &[u8], question: Question) 
             Answer::Margin(margin, entries)
         }
         Question::Amount { row } => Answer::Amount(implementation.position_amount(file, row)),
+        Question::Premiums => Answer::Premiums(implementation.premiums(file)),
     }
 }
 
@@ -93,6 +95,7 @@ fn first_part(answer: &Answer) -> String {
     match answer {
         Answer::Margin(margin, _) => format!("{margin:?}"),
         Answer::Amount(amount) => format!("{amount}"),
+        Answer::Premiums(premiums) => format!("{premiums:?}"),
     }
 }
 

@@ -1,7 +1,7 @@
 //! What both implementations are asked through, in the form of the C header.
 
-pub use library::{Line, Margin};
-use reference::lines::margin_into;
+pub use library::{Answer, Line, Margin};
+use reference::lines::{margin_into, premiums};
 use reference::position::one_position;
 
 pub trait Implementation {
@@ -9,6 +9,8 @@ pub trait Implementation {
     fn margin(&self, file: &[u8], entries: &mut [Line], room: usize) -> Margin;
 
     fn position_amount(&self, file: &[u8], row: u64) -> i64;
+
+    fn premiums(&self, file: &[u8]) -> Answer;
 }
 
 pub struct Reference;
@@ -30,5 +32,14 @@ impl Implementation for Reference {
 
     fn position_amount(&self, file: &[u8], row: u64) -> i64 {
         one_position(file, row)
+    }
+
+    fn premiums(&self, file: &[u8]) -> Answer {
+        match premiums(file) {
+            Ok(value) => Answer { refusal: 0, row: 0, value: value as u64 },
+            Err(refusal) => {
+                Answer { refusal: refusal.number as u64, row: refusal.row as u64, value: 0 }
+            }
+        }
     }
 }

@@ -1,6 +1,6 @@
 //! The library that the program is linked with.
 
-use compare::implementation::{Implementation, Line, Margin};
+use compare::implementation::{Answer, Implementation, Line, Margin};
 
 pub struct Library;
 
@@ -11,5 +11,9 @@ impl Implementation for Library {
 
     fn position_amount(&self, file: &[u8], row: u64) -> i64 {
         library::position_amount(file, row)
+    }
+
+    fn premiums(&self, file: &[u8]) -> Answer {
+        library::premiums(file)
     }
 }

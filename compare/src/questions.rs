@@ -8,6 +8,8 @@ pub enum Question {
     Margin { room: usize },
     /// The amount of one row.
     Amount { row: u64 },
+    /// The premiums of all held rows.
+    Premiums,
 }
 
 /// A question, and what it is asked for.
@@ -23,6 +25,7 @@ pub fn questions(seed: u64, position_count: Option<usize>) -> Vec<Purpose> {
         Some(p) => of_accepted(&mut random, p),
         None => of_refused(&mut random),
     };
+    asked.push((Question::Premiums, "premiums"));
     // With the empty list the pointer is NULL.
     asked.push((Question::Margin { room: 0 }, "no room"));
     asked

@@ -22,6 +22,7 @@ pub struct Summary {
     outcomes: [u64; 12],
     margin_calls: Tally,
     amount_calls: Tally,
+    premium_calls: u64,
     lines: u64,
     entries_kept: u64,
 }
@@ -58,6 +59,7 @@ impl Summary {
     pub fn add_answer(&mut self, answer: &Answer, purpose: &'static str) {
         match answer {
             Answer::Amount(_) => self.amount_calls.add(purpose),
+            Answer::Premiums(_) => self.premium_calls += 1,
             Answer::Margin(margin, entries) => {
                 self.margin_calls.add(purpose);
                 self.lines += margin.lines;
@@ -95,6 +97,7 @@ impl fmt::Display for Summary {
         )?;
         let calls = self.amount_calls.total();
         writeln!(out, "serpentgleam_position_amount: {calls} calls: {}", self.amount_calls)?;
+        writeln!(out, "serpentgleam_premiums: {} calls", self.premium_calls)?;
         write!(out, "{} files, 0 differences", self.files)
     }
 }

@@ -15,10 +15,20 @@ pub struct Margin {
     pub total: u64,
 }
 
+/// `struct serpentgleam_answer`.
+#[repr(C)]
+#[derive(Clone, Copy, Debug, PartialEq, Eq)]
+pub struct Answer {
+    pub refusal: u64,
+    pub row: u64,
+    pub value: u64,
+}
+
 extern "C" {
     fn serpentgleam_margin(file: *const u8, length: usize, lines: *mut Line, room: usize)
         -> Margin;
     fn serpentgleam_position_amount(file: *const u8, length: usize, row: u64) -> i64;
+    fn serpentgleam_premiums(file: *const u8, length: usize) -> Answer;
 }
 
 /// The file's margin, its lines in the list.
@@ -34,6 +44,13 @@ pub fn margin(file: &[u8], list: &mut [Line]) -> Margin {
 pub fn position_amount(file: &[u8], row: u64) -> i64 {
     // SAFETY: the file is as long as is said.
     unsafe { serpentgleam_position_amount(start_of(file), file.len(), row) }
+}
+
+/// The premiums of the file's held rows.
+#[inline]
+pub fn premiums(file: &[u8]) -> Answer {
+    // SAFETY: the file is as long as is said.
+    unsafe { serpentgleam_premiums(start_of(file), file.len()) }
 }
 
 /// NULL for a file without bytes.

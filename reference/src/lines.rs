@@ -65,6 +65,12 @@ fn rows_left(account: &Account, contracts_left: &[i64]) -> Vec<Left> {
     left
 }
 
+/// The unsettled premiums of all held rows, by themselves.
+pub fn premiums(bytes: &[u8]) -> Result<i64, Refusal> {
+    let account = read_account(bytes)?;
+    Ok((0..account.positions.len()).map(|row| premium_amount(&account, row)).sum())
+}
+
 /// An entry of the caller's list: 1 for a pair or 2 for a row left, then the
 /// fields; the fifth number of a row left is 0.
 pub type Entry = [u64; 5];
