@@ -1,9 +1,12 @@
 /*
  * Serpentgleam: margin of flexible options by circular 081/2003.
  *
- * Link with libserpentgleam.a, which `rt staticlib serpentgleam` writes below target/staticlib. The library has no state,
- * takes no memory from a heap, starts no thread and calls nothing of the operating system: every call may be made from
- * any thread, and calls on different threads do not affect each other. A call needs about 40 KB of stack.
+ * For C99 and later and for C++. Link with libserpentgleam.a or libserpentgleam.so, as `pkg-config --cflags --libs
+ * serpentgleam` says after `make install`; in the repository both are below target/staticlib after `make`.
+ *
+ * The library has no state, takes no memory from a heap, starts no thread and calls nothing of the operating system: every
+ * call may be made from any thread, and calls on different threads do not affect each other. A call needs about 40 KB of
+ * stack.
  *
  * It reads the bytes handed over during the call alone, keeps no pointer to them and writes nothing to them; the caller
  * owns them before, during and after. The same holds of a list of lines, which it writes during the call alone and which
@@ -12,21 +15,7 @@
  * An account file has at most 65,536 bytes. Any bytes may be handed over: a file that is not in order is refused, and
  * nothing is read outside it. With length 0 the pointer may be NULL.
  *
- * Refusals, with the number that a call gives:
- *
- *    1  the file has fewer than 12 or more than 65,536 bytes
- *    2  series count not 1 to 32, position count above 256, or one of the last four bytes not zero
- *    3  the account has no positions
- *    4  the distance to the first series row is not 12 + 24 x series + 32 x positions, or longer than the file
- *    5  a series row: PV, fa, fb, f3 or M outside its range
- *    6  a series row: type above 1, or a spare byte not zero
- *    7  a position row: series, side, kind, flags or a spare byte wrong
- *    8  a position row: Q, PE, REB or premium wrong
- *    9  a position row: PB wrong
- *   10  a position row: barrier price outside its rule or range, or REB without a barrier
- *   11  a position row: barrier on the wrong side of PV
- *   12  the list of lines has fewer entries than the account has positions
- *   13  there is no position row of the number asked for
+ * A refusal is a number from 1 to 13, below with a name for each; serpentgleam_refusal_sentence gives its sentence.
  */
 #ifndef SERPENTGLEAM_H
 #define SERPENTGLEAM_H
@@ -34,9 +23,75 @@
 #include <stddef.h>
 #include <stdint.h>
 
+/* The version of this header and of the library that it came with. */
+#define SERPENTGLEAM_VERSION "0.1.0"
+#define SERPENTGLEAM_VERSION_MAJOR 0
+#define SERPENTGLEAM_VERSION_MINOR 1
+#define SERPENTGLEAM_VERSION_PATCH 0
+
+/* Limits of every account: bytes of its file, series, positions, and lines of its margin. */
+#define SERPENTGLEAM_MOST_BYTES 65536
+#define SERPENTGLEAM_MOST_SERIES 32
+#define SERPENTGLEAM_MOST_POSITIONS 256
+#define SERPENTGLEAM_MOST_LINES 256
+
+/* The kinds of a line. */
+#define SERPENTGLEAM_PAIR 1
+#define SERPENTGLEAM_LEFT 2
+
+/* The refusals. */
+#define SERPENTGLEAM_REFUSED_FILE_SIZE 1
+#define SERPENTGLEAM_REFUSED_TRAILER 2
+#define SERPENTGLEAM_REFUSED_NO_POSITIONS 3
+#define SERPENTGLEAM_REFUSED_DISTANCE 4
+#define SERPENTGLEAM_REFUSED_SERIES_RANGE 5
+#define SERPENTGLEAM_REFUSED_SERIES_TYPE 6
+#define SERPENTGLEAM_REFUSED_POSITION_TERMS 7
+#define SERPENTGLEAM_REFUSED_POSITION_RANGE 8
+#define SERPENTGLEAM_REFUSED_LIMITER_PRICE 9
+#define SERPENTGLEAM_REFUSED_BARRIER_PRICE 10
+#define SERPENTGLEAM_REFUSED_BARRIER_SIDE 11
+#define SERPENTGLEAM_REFUSED_LIST_TOO_SHORT 12
+#define SERPENTGLEAM_REFUSED_ROW_ASKED_FOR 13
+
 #ifdef __cplusplus
 extern "C" {
 #endif
+
+/* The sentence of a refusal's number, in English, without a full stop. Nobody frees it. */
+static inline const char *serpentgleam_refusal_sentence(uint64_t number)
+{
+    switch (number) {
+    case SERPENTGLEAM_REFUSED_FILE_SIZE:
+        return "the file has fewer than 12 or more than 65,536 bytes";
+    case SERPENTGLEAM_REFUSED_TRAILER:
+        return "series count not 1 to 32, position count above 256, or one of the last four bytes not zero";
+    case SERPENTGLEAM_REFUSED_NO_POSITIONS:
+        return "the account has no positions";
+    case SERPENTGLEAM_REFUSED_DISTANCE:
+        return "the distance to the first series row is not 12 + 24 x series + 32 x positions, or longer than the file";
+    case SERPENTGLEAM_REFUSED_SERIES_RANGE:
+        return "a series row: PV, fa, fb, f3 or M outside its range";
+    case SERPENTGLEAM_REFUSED_SERIES_TYPE:
+        return "a series row: type above 1, or a spare byte not zero";
+    case SERPENTGLEAM_REFUSED_POSITION_TERMS:
+        return "a position row: series, side, kind, flags or a spare byte wrong";
+    case SERPENTGLEAM_REFUSED_POSITION_RANGE:
+        return "a position row: Q, PE, REB or premium wrong";
+    case SERPENTGLEAM_REFUSED_LIMITER_PRICE:
+        return "a position row: PB wrong";
+    case SERPENTGLEAM_REFUSED_BARRIER_PRICE:
+        return "a position row: barrier price outside its rule or range, or REB without a barrier";
+    case SERPENTGLEAM_REFUSED_BARRIER_SIDE:
+        return "a position row: barrier on the wrong side of PV";
+    case SERPENTGLEAM_REFUSED_LIST_TOO_SHORT:
+        return "the list of lines has fewer entries than the account has positions";
+    case SERPENTGLEAM_REFUSED_ROW_ASKED_FOR:
+        return "there is no position row of the number asked for";
+    default:
+        return "there is no refusal of this number";
+    }
+}
 
 /*
  * The amount in centavos of one position of an account.
@@ -45,16 +100,16 @@ extern "C" {
  * row: the position row, counted from 0 in the order of the file.
  *
  * Answers the amount, 0 or more: of a written position its margin by itself, of a held one its unsettled premium. Answers
- * minus the refusal's number where the file is refused, or -13 where the file is accepted and has no such row. The largest
- * amount is 9,999,999,900,000,000.
+ * minus the refusal's number where the file is refused, or minus SERPENTGLEAM_REFUSED_ROW_ASKED_FOR where the file is
+ * accepted and has no such row. The largest amount is 9,999,999,900,000,000.
  */
 int64_t serpentgleam_position_amount(const uint8_t *file, size_t length, uint64_t row);
 
 /*
  * A line of an account's margin: five whole numbers.
  *
- * kind 1, a pair:       first = written row, second = held row, third = contracts, fourth = amount in centavos.
- * kind 2, a row left:   first = row, second = contracts, third = amount in centavos (0 if held), fourth = 0.
+ * SERPENTGLEAM_PAIR:  first = written row, second = held row, third = contracts, fourth = amount in centavos.
+ * SERPENTGLEAM_LEFT:  first = row, second = contracts, third = amount in centavos (0 if held), fourth = 0.
  */
 struct serpentgleam_line {
     uint64_t kind;
@@ -81,12 +136,31 @@ struct serpentgleam_result {
  * row order, into the caller's list.
  *
  * file, length: the account file's bytes.
- * lines, room: the list and how many entries it has. 256 are enough for every account; fewer than the account has
- * positions are refused with 12. With room 0 the pointer may be NULL.
+ * lines, room: the list and how many entries it has. SERPENTGLEAM_MOST_LINES are enough for every account; fewer than
+ * the account has positions are refused with SERPENTGLEAM_REFUSED_LIST_TOO_SHORT. With room 0 the pointer may be NULL.
  *
  * Entries after the last line keep their content, and on a refusal every entry does.
  */
 struct serpentgleam_result serpentgleam_margin(const uint8_t *file, size_t length, struct serpentgleam_line *lines, size_t room);
+
+/*
+ * An answer that is one number. refusal is 0 where the call was done: then value is the number, and row is 0. Otherwise
+ * refusal is the refusal's number and row the row it was given for, counted from 0 in its own table (0 where it was not
+ * given for a row), and value is 0.
+ */
+struct serpentgleam_answer {
+    uint64_t refusal;
+    uint64_t row;
+    uint64_t value;
+};
+
+/*
+ * The unsettled premiums of all held rows of an account together, in centavos: premium x M x Q of each. They are part of
+ * the total that serpentgleam_margin gives.
+ *
+ * file, length: the account file's bytes.
+ */
+struct serpentgleam_answer serpentgleam_premiums(const uint8_t *file, size_t length);
 
 #ifdef __cplusplus
 }
