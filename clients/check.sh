@@ -1,12 +1,12 @@
 #!/usr/bin/env bash
-# Builds the static library, compiles the C clients with warnings as errors, runs them on the example accounts and
-# compares what they print with clients/expected.txt.
+# Builds the static library unless SERPENTGLEAM_LIBRARY names one, compiles the C clients with warnings as errors, runs
+# them on the example accounts and compares what they print with clients/expected.txt.
 set -eu
 cd "$(dirname "$0")/.."
-mkdir -p target
-rt staticlib serpentgleam > target/staticlib.log 2>&1 || { tail -n 20 target/staticlib.log; exit 1; }
+bash library/prove.sh
+archive=${SERPENTGLEAM_LIBRARY:-target/staticlib/libserpentgleam.a}
 for client in limit_screen collateral_call; do
-    gcc -std=c11 -O2 -Wall -Wextra -Wpedantic -Werror -Iinclude -o "target/$client" "clients/$client.c" target/staticlib/libserpentgleam.a
+    gcc -std=c11 -O2 -Wall -Wextra -Wpedantic -Werror -Iinclude -o "target/$client" "clients/$client.c" "$archive"
 done
 while read -r account row; do
     printf '%s %s: ' "$account" "$row"

@@ -10,11 +10,9 @@
 #include <inttypes.h>
 #include <stdio.h>
 
-#define ROOM 256
-
 static void print_line(const struct serpentgleam_line *line)
 {
-    if (line->kind == 1)
+    if (line->kind == SERPENTGLEAM_PAIR)
         printf("written row %" PRIu64 ", held row %" PRIu64 ": %" PRIu64 " contracts, %" PRIu64 "\n", line->first,
                line->second, line->third, line->fourth);
     else
@@ -24,7 +22,7 @@ static void print_line(const struct serpentgleam_line *line)
 int main(int count, char **words)
 {
     static uint8_t file[ACCOUNT_SPACE];
-    static struct serpentgleam_line lines[ROOM];
+    static struct serpentgleam_line lines[SERPENTGLEAM_MOST_LINES];
     struct serpentgleam_result answer;
     size_t length;
     uint64_t i;
@@ -36,9 +34,10 @@ int main(int count, char **words)
     if (!read_account_file("collateral_call", words[1], file, &length))
         return 2;
 
-    answer = serpentgleam_margin(file, length, lines, ROOM);
+    answer = serpentgleam_margin(file, length, lines, SERPENTGLEAM_MOST_LINES);
     if (answer.refusal != 0) {
-        printf("refused %" PRIu64 " %" PRIu64 "\n", answer.refusal, answer.row);
+        printf("refused %" PRIu64 " %" PRIu64 ": %s\n", answer.refusal, answer.row,
+               serpentgleam_refusal_sentence(answer.refusal));
         return 1;
     }
     for (i = 0; i < answer.lines; i++)

@@ -13,25 +13,6 @@
 #include <stdlib.h>
 #include <string.h>
 
-static const char *refusal(int64_t number)
-{
-    switch (number) {
-    case 1: return "the file has fewer than 12 or more than 65,536 bytes";
-    case 2: return "the counts or the last four bytes of the trailer are wrong";
-    case 3: return "the account has no positions";
-    case 4: return "the trailer's distance does not fit the file";
-    case 5: return "a series row has PV, fa, fb, f3 or M outside its range";
-    case 6: return "a series row has a wrong type or spare byte";
-    case 7: return "a position row has a wrong series, side, kind, flag or spare byte";
-    case 8: return "a position row has a wrong Q, PE, REB or premium";
-    case 9: return "a position row has a wrong limiter";
-    case 10: return "a position row has a barrier price outside its range, or a rebate without barrier";
-    case 11: return "a position row has its barrier on the wrong side of today's price";
-    case 13: return "the account has no such row";
-    default: return "unknown refusal";
-    }
-}
-
 int main(int count, char **words)
 {
     static uint8_t file[ACCOUNT_SPACE];
@@ -55,7 +36,7 @@ int main(int count, char **words)
 
     answer = serpentgleam_position_amount(file, length, row);
     if (answer < 0) {
-        printf("refused %" PRId64 ": %s\n", -answer, refusal(-answer));
+        printf("refused %" PRId64 ": %s\n", -answer, serpentgleam_refusal_sentence((uint64_t)-answer));
         return 1;
     }
     printf("%" PRId64 "\n", answer);
