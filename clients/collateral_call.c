@@ -1,8 +1,9 @@
 /*
- * The collateral call's question: the lines and the total of an account file.
+ * The collateral call's question: the lines, the premiums and the total of an account file.
  *
- * collateral_call FILE    prints a line for each pair and each row left, and the total, all amounts in centavos; or the
- *                         refusal. Exit status 0 with a total, 1 with a refusal, 2 where the file cannot be read.
+ * collateral_call FILE    prints a line for each pair and each row left, the premiums and the total, all amounts in
+ *                         centavos; or the refusal. Exit status 0 with a total, 1 with a refusal, 2 where the file cannot
+ *                         be read.
  */
 #include "account_file.h"
 #include "serpentgleam.h"
@@ -42,6 +43,8 @@ int main(int count, char **words)
     }
     for (i = 0; i < answer.lines; i++)
         print_line(&lines[i]);
+    /* The file was accepted above, so this is done too. */
+    printf("premium %" PRIu64 "\n", serpentgleam_premiums(file, length).value);
     printf("total %" PRIu64 "\n", answer.total);
     return 0;
 }
