@@ -1,8 +1,8 @@
 /*
  * Serpentgleam: margin of flexible options by circular 081/2003.
  *
- * For C99 and later and for C++. Link with libserpentgleam.a or libserpentgleam.so, as `pkg-config --cflags --libs
- * serpentgleam` says after `make install`; in the repository both are below target/staticlib after `make`.
+ * For C99 and later and for C++. Link with the archive libserpentgleam.a, which `make` puts into target/staticlib, or after
+ * `make install` with the archive or the shared object as `pkg-config --cflags --libs serpentgleam` says.
  *
  * The library has no state, takes no memory from a heap, starts no thread and calls nothing of the operating system: every
  * call may be made from any thread, and calls on different threads do not affect each other. A call needs about 40 KB of
