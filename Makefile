@@ -51,9 +51,12 @@ prefix:
 	*) echo 'make: PREFIX must begin with /: $(PREFIX)' >&2; exit 2;; \
 	esac
 
+# Those of python/tests that need nothing but the library.
+TESTED = test_header test_premiums test_module test_command test_output test_text test_text_faults
+
 test: all
 	SERPENTGLEAM_LIBRARY='$(ARCHIVE)' bash clients/check.sh
-	cd python/tests && $(PYTHON) -m unittest test_header test_module test_command test_output test_text test_text_faults
+	cd python/tests && $(PYTHON) -m unittest $(TESTED)
 	bash tests/install.sh
 
 install: all

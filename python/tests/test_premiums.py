@@ -1,0 +1,48 @@
+"""The library's call for the premiums of an account: what its margin has beside the amounts of its lines, and the same
+refusals.
+"""
+import ctypes
+import unittest
+
+from support import DOCUMENT, VECTORS, bytes_of, file_with
+
+from serpentgleam import Refusal, library, margin_or_refusal
+
+
+class Answer(ctypes.Structure):
+    """struct serpentgleam_answer."""
+    _fields_ = [(name, ctypes.c_uint64) for name in ('refusal', 'row', 'value')]
+
+
+def premiums(data):
+    """Refusal, row and value of the call, for these bytes or for NULL."""
+    call = library.load().serpentgleam_premiums
+    call.argtypes, call.restype = [ctypes.c_char_p, ctypes.c_size_t], Answer
+    answer = call(data, len(data or b''))
+    return answer.refusal, answer.row, answer.value
+
+
+class Premiums(unittest.TestCase):
+    def test_document(self):
+        self.assertEqual(premiums(bytes_of(DOCUMENT)), (0, 0, 300))
+
+    def test_vectors(self):
+        with_premiums = 0
+        for data, _ in VECTORS:
+            answer = margin_or_refusal(data)
+            expected = (*answer, 0) if isinstance(answer, Refusal) else (0, 0, answer.premium)
+            self.assertEqual(premiums(data), expected)
+            with_premiums += expected[2] > 0
+        self.assertGreater(with_premiums, 0)
+
+    def test_no_bytes(self):
+        for data in (None, b''):
+            self.assertEqual(premiums(data), (1, 0, 0))
+
+    def test_the_most_that_there_can_be(self):
+        rows = 'held Q=100000 PE=3000 premium=10000000 european\n' * 256
+        self.assertEqual(premiums(file_with(rows)), (0, 0, 256 * 100_000 * 10_000_000 * 5))
+
+
+if __name__ == '__main__':
+    unittest.main()
