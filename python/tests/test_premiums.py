@@ -4,9 +4,10 @@ refusals.
 import ctypes
 import unittest
 
-from support import DOCUMENT, VECTORS, bytes_of, file_with
+from support import DOCUMENT, SERIES_TEXT, VECTORS, bytes_of
 
 from serpentgleam import Refusal, library, margin_or_refusal
+from serpentgleam.text import file_from_text
 
 
 class Answer(ctypes.Structure):
@@ -40,8 +41,9 @@ class Premiums(unittest.TestCase):
             self.assertEqual(premiums(data), (1, 0, 0))
 
     def test_the_most_that_there_can_be(self):
+        series = SERIES_TEXT.replace('M=5', 'M=1000')
         rows = 'held Q=100000 PE=3000 premium=10000000 european\n' * 256
-        self.assertEqual(premiums(file_with(rows)), (0, 0, 256 * 100_000 * 10_000_000 * 5))
+        self.assertEqual(premiums(file_from_text((series + rows).encode())), (0, 0, 256 * 100_000 * 10_000_000 * 1_000))
 
 
 if __name__ == '__main__':
