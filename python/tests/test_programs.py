@@ -44,6 +44,17 @@ class UnwrittenAnswers(unittest.TestCase):
             self.assertEqual(program('margin_batch', self.accounts, stdout=out, preexec_fn=little_room)[1], LOST)
         self.assertEqual(bytes_of(path), whole[:ROOM])
 
+    def test_no_room_for_a_moment(self):
+        data = framed([bytes_of(DOCUMENT)] * 5000)
+        whole, _ = program('margin_batch', data)
+        end, pipe = os.pipe()
+        os.set_blocking(pipe, False)  # a write into the full pipe fails, until the pipe is read
+        with os.fdopen(pipe, 'wb') as full:
+            self.assertEqual(program('margin_batch', data, stdout=full)[1], LOST)
+        with os.fdopen(end, 'rb') as reader:
+            answers = reader.read()
+        self.assertTrue(whole.startswith(answers) and len(answers) < len(whole))
+
     def test_a_pipe_that_nobody_reads(self):
         end, pipe = os.pipe()
         os.close(end)
