@@ -100,10 +100,10 @@ made uninstall PREFIX="$prefix"
 [ -z "$(left_in "$prefix")" ] || wrong "after make uninstall there is still $(left_in "$prefix")"
 
 # Below DESTDIR the same files, which name PREFIX alone.
-made install PREFIX=/opt/margin DESTDIR="$scratch/a package"
-grep -qx 'prefix=/opt/margin' "$scratch/a package/opt/margin/lib/pkgconfig/serpentgleam.pc" ||
+made install PREFIX=/srv/margin DESTDIR="$scratch/a package"
+grep -qx 'prefix=/srv/margin' "$scratch/a package/srv/margin/lib/pkgconfig/serpentgleam.pc" ||
     wrong 'the pkg-config file names another prefix'
-made uninstall PREFIX=/opt/margin DESTDIR="$scratch/a package"
+made uninstall PREFIX=/srv/margin DESTDIR="$scratch/a package"
 [ -z "$(left_in "$scratch/a package")" ] || wrong 'after make uninstall with DESTDIR something is left'
 
 for refused in relative '/with space'; do

@@ -6,6 +6,8 @@ pub mod SearchLaws
 pub mod RowLaws
 pub mod StandingLaws
 pub mod LeastLaws
+pub mod RenewLaws
+pub mod AskLaws
 pub mod AlikeLaws
 pub mod MakeLaws
 pub mod Turn

@@ -1,7 +1,7 @@
 use Prim.Native.Nat.{_%_, _/_, _<_, _≤_}
 use Rattle.lanes.specs.Keys.{none}
 use Rattle.numbers.specs.Lists.{nth}
-use Rattle.pairing.proofs.LeastLaws.{settled-is, to-ask-falls, toAsk}
+use Rattle.pairing.proofs.AskLaws.{settled-is, to-ask-falls, toAsk}
 use Rattle.pairing.proofs.rows.best_rank.Statement.{statement}
 use Rattle.pairing.proofs.rows.best_rank.Tie as tie
 use Rattle.pairing.specs.Standings.{Standings}

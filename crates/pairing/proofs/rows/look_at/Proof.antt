@@ -1,4 +1,5 @@
-use Rattle.pairing.proofs.LeastLaws.{both-spent, looked-renewed, looked-same}
+use Rattle.pairing.proofs.LeastLaws.{both-spent}
+use Rattle.pairing.proofs.RenewLaws.{looked-renewed, looked-same}
 use Rattle.pairing.proofs.RowLaws.{both-some}
 use Rattle.pairing.proofs.rows.look_at.Statement.{statement}
 use Rattle.pairing.proofs.rows.look_at.Tie as tie

@@ -1,4 +1,4 @@
-use Rattle.pairing.proofs.LeastLaws.{least-asked, least-asks, least-stale, risen-nearer}
+use Rattle.pairing.proofs.AskLaws.{least-asked, least-asks, least-stale, risen-nearer}
 use Rattle.pairing.proofs.rows.look_at_least.Statement.{statement}
 use Rattle.pairing.proofs.rows.look_at_least.Tie as tie
 use Rattle.rules.specs.File.{accountOf}

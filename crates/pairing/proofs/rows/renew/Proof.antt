@@ -1,5 +1,5 @@
 use Rattle.lanes.proofs.FileFacts.{ranged}
-use Rattle.pairing.proofs.LeastLaws.{next-places, own-places, renewed-last, renewed-next, renewed-own}
+use Rattle.pairing.proofs.RenewLaws.{next-places, own-places, renewed-last, renewed-next, renewed-own}
 use Rattle.pairing.proofs.StandingLaws.{but, retired}
 use Rattle.pairing.proofs.rows.renew.Statement.{statement}
 use Rattle.pairing.proofs.rows.renew.Tie as tie

@@ -1,7 +1,7 @@
 use Prim.Native.Nat.{_-_, _≤_}
 use Rattle.lanes.proofs.FileFacts.{ranged}
 use Rattle.numbers.specs.Lists.{nth}
-use Rattle.pairing.proofs.LeastLaws.{looked-more, looked-none, raised-all}
+use Rattle.pairing.proofs.RenewLaws.{looked-more, looked-none, raised-all}
 use Rattle.pairing.proofs.rows.renew_all.Statement.{statement}
 use Rattle.pairing.proofs.rows.renew_all.Tie as tie
 use Rattle.pairing.specs.Standings.{Leaves, LookedTo}

@@ -1,5 +1,5 @@
 use Rattle.lanes.proofs.FileFacts.{ranged}
-use Rattle.pairing.proofs.LeastLaws.{raised}
+use Rattle.pairing.proofs.RenewLaws.{raised}
 use Rattle.pairing.proofs.rows.renew_some.Statement.{statement}
 use Rattle.pairing.proofs.rows.renew_some.Tie as tie
 use Rattle.rules.specs.File.{accountOf}
