@@ -86,10 +86,12 @@ abbrev pub SameLines : List ℕ → List ℕ → Type 0
 SameLines old new = (i : ℕ) → lineColumn ≤ i → nth new i ≡ nth old i
 
 -- What making the table rests on, and what it gives.
-pub record TableAsked (b : List ℕ) (l : Layout) (table written : List ℕ) : Type 0 where
+pub record TableAsked (b : List ℕ) (l : Layout) (table written keys starts : List ℕ) : Type 0 where
   pub file : Known b l
   pub room : tableSize ≤ length table
   pub written-room : mostPositions ≤ length written
+  pub keys-room : mostPositions ≤ length keys
+  pub starts-room : mostPositions ≤ length starts
 
 pub record TableFilled (a : Account) (old new written : List ℕ) (n : ℕ) : Type 0 where
   pub table : Table a new

@@ -44,13 +44,21 @@ fn fill_marks(file: &[u8], l: Layout, table: &mut [u64])
     }
 }
 
-// The table, and the places and rows of the written rows that pair, in ascending order; how many those are.
-pub fn fill_table(file: &[u8], l: Layout, table: &mut [u64], written: &mut [u64]) -> usize
-    requires { ⌜ TableAsked (now file) l (now table) (now written) ⌝ }
+// The table, and the places and rows of the written rows that pair, in ascending order; how many those are. Two lists more
+// are lent to make it with.
+pub fn fill_table(
+    file: &[u8],
+    l: Layout,
+    table: &mut [u64],
+    written: &mut [u64],
+    keys: &mut [u64],
+    starts: &mut [u64],
+) -> usize
+    requires { ⌜ TableAsked (now file) l (now table) (now written) (now keys) (now starts) ⌝ }
     ensures { λ n. ⌜ TableFilled (accountOf (now (file .entry)) l) (now (table .entry)) (now (table .exit)) (now (written .exit)) n ⌝ }
 {
     fill_marks(file, l, table);
     let n = fill_keys(table, l.positions, 1, written);
-    fill_links(table, l.positions, written, n);
+    fill_links(table, l.positions, written, n, keys, starts);
     n
 }

@@ -49,10 +49,10 @@ pairing-asks b l left numbers k el en f =
     }
 
 -- What the rows left ask, after all pairs.
-pub rows-ask : (b : List ℕ) (l : Layout) (n₀ table left n : List ℕ) (t : Tally) → Known b l → length left ≡ 256 → length n ≡ mostNumbers
-    → PairedUp (accountOf b l) n₀ table left n t → RowsAsked b l table left n t
+pub rows-ask : (b : List ℕ) (l : Layout) (table left n : List ℕ) (t : Tally) → Known b l → length left ≡ 256 → length n ≡ mostNumbers
+    → PairedUp (accountOf b l) table left n t → RowsAsked b l table left n t
 unfolding openRows
-rows-ask b l n₀ table left n t k el en up =
+rows-ask b l table left n t k el en up =
     let a = accountOf b l in
     let p = up .paired in
     record {
@@ -74,10 +74,10 @@ rows-ask b l n₀ table left n t k el en up =
     }
 
 -- All lines, once the rows left are written after the pairs.
-pub account-listed : (b : List ℕ) (l : Layout) (n₀ left n n′ : List ℕ) (t : Tally) (t′ : Tally) → Known b l → length n ≡ 1280
-    → Paired (accountOf b l) n₀ left n t → Added (leftLines (accountOf b l) (nth left) (l .positions)) n n′ t t′
+pub account-listed : (b : List ℕ) (l : Layout) (left n n′ : List ℕ) (t : Tally) (t′ : Tally) → Known b l → length n ≡ 1280
+    → Paired (accountOf b l) left n t → Added (leftLines (accountOf b l) (nth left) (l .positions)) n n′ t t′
     → AccountListed (accountOf b l) n′ t′
-account-listed b l n₀ left n n′ t t′ k en p f =
+account-listed b l left n n′ t t′ k en p f =
     let a = accountOf b l in
     let pairs = pairLines a (pairsAfter a (l .positions)) in
     let same = left-same a (nth left) (contractsAfter a (l .positions)) (l .positions) (p .left-is) in

@@ -67,7 +67,6 @@ pair-written b l left numbers k w h spread ok q m eq em most numbers′ f len =
       left-is = λ r lr. taken-is left w h q (ok .two) (omega (arith, ok .lefts, ok .written)) (omega (arith, ok .lefts, ok .held)) eq r;
       line-is = f .line-is ∙ ap₂ (lineOf w h) eq is;
       before = f .before;
-      after = f .after;
       left-length = simp length-set;
       numbers-length = len;
     }

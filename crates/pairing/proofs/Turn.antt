@@ -32,28 +32,26 @@ use Rattle.rules.specs.declared.Layout.{Layout}
 abbrev tally : ℕ → ℕ → Tally
 tally k total = record { count = k; total = total }
 
-module _ (a : Account) (numbers₀ : List ℕ) where
+module _ (a : Account) where
   -- Before the first round.
-  pub began : (left : List ℕ) → ((r : ℕ) → r < a .positions → nth left r ≡ available a r)
-      → PairedBy 0 a numbers₀ left numbers₀ (tally 0 0)
+  pub began : (left numbers : List ℕ) → ((r : ℕ) → r < a .positions → nth left r ≡ available a r)
+      → PairedBy 0 a left numbers (tally 0 0)
   unfolding leftAfter madeAfter sumOver pairLines linesFrom
-  began left same =
+  began left numbers same =
       record {
         count-is = refl;
         total-is = refl;
         total-most = omega arith;
         left-is = same;
         lines-are = refl;
-        after = λ i l. refl;
-        numbers-length = refl;
       }
 
-  module _ (k total : ℕ) (left numbers : List ℕ) (f : PairedBy k a numbers₀ left numbers (tally k total)) where
+  module _ (k total : ℕ) (left numbers : List ℕ) (f : PairedBy k a left numbers (tally k total)) where
     now-choice : choice (bookOf a) (leftAfter (bookOf a) k (available a)) ≡ choice (bookOf a) (nth left)
     now-choice = sym (choice-same (bookOf a) (nth left) (leftAfter (bookOf a) k (available a)) (f .left-is))
 
     -- After the last round.
-    stopped : choice (bookOf a) (nth left) ≡ NoPair → Paired a numbers₀ left numbers (tally k total)
+    stopped : choice (bookOf a) (nth left) ≡ NoPair → Paired a left numbers (tally k total)
     stopped e =
         let none-left = now-choice ∙ e in
         let few : k ≤ a .positions = omega (arith, f .count-is, bound (bookOf a) (available a) k) in
@@ -66,8 +64,6 @@ module _ (a : Account) (numbers₀ : List ℕ) where
           total-most = f .total-most;
           left-is = λ r l. f .left-is r l ∙ ap (λ (g : ℕ → ℕ). g r) (sym rest);
           lines-are = f .lines-are ∙ ap (pairLines a) (sym made);
-          after = f .after;
-          numbers-length = f .numbers-length;
         }
 
     module _ (w h : ℕ) (e : choice (bookOf a) (nth left) ≡ Pair w h) where
@@ -93,7 +89,7 @@ module _ (a : Account) (numbers₀ : List ℕ) where
 
       -- One more round.
       turned : (left′ numbers′ : List ℕ) (m : ℕ) → PairWritten a k w h left numbers left′ numbers′ m
-          → PairedBy (k + 1) a numbers₀ left′ numbers′ (tally (k + 1) (total + m))
+          → PairedBy (k + 1) a left′ numbers′ (tally (k + 1) (total + m))
       unfolding sumOver pairLines
       turned left′ numbers′ m p =
           record {
@@ -112,8 +108,6 @@ module _ (a : Account) (numbers₀ : List ℕ) where
                 lines-more numbers′ k
                 ∙ ap₂ (λ x y. x ++ (y ∷ [])) (lines-same numbers′ numbers k (p .before) ∙ f .lines-are) (p .line-is)
                 ∙ sym (ap (pairLines a) made-is ∙ pairLines-append a (madeAfter (bookOf a) k (available a)) (pairOf left w h ∷ []));
-            after = λ i l. p .after i (omega arith) ∙ f .after i (omega arith);
-            numbers-length = p .numbers-length ∙ f .numbers-length;
           }
 
 pub still-standing : (a : Account) → Ranged a → (left left′ numbers numbers′ table tree places : List ℕ) (k w h m : ℕ)
@@ -122,15 +116,15 @@ still-standing a ok left left′ numbers numbers′ table tree places k w h m p 
     standings-fall a ok left left′ table tree places (λ r l. omega (arith, p .left-is r l, taken-most (nth left) (Pair w h) r))
 
 -- One turn of the code's loop, with the least rank m.
-module _ (b : List ℕ) (l : Layout) (known : Known b l) (numbers₀ left numbers table tree places : List ℕ) (k total : ℕ)
-    (f : PairedBy k (accountOf b l) numbers₀ left numbers (tally k total)) (lines : Lines (accountOf b l) table)
+module _ (b : List ℕ) (l : Layout) (known : Known b l) (left numbers table tree places : List ℕ) (k total : ℕ)
+    (f : PairedBy k (accountOf b l) left numbers (tally k total)) (lines : Lines (accountOf b l) table)
     (m : ℕ) (best : BestRank (accountOf b l) left table tree places m) where
   ok : Known b l
   ok = known
 
-  pub round-stops : none ≤ m → Paired (accountOf b l) numbers₀ left numbers (tally k total)
+  pub round-stops : none ≤ m → Paired (accountOf b l) left numbers (tally k total)
   round-stops s =
-      stopped (accountOf b l) numbers₀ k total left numbers f
+      stopped (accountOf b l) k total left numbers f
       (nothing (accountOf b l) (ranged b l ok) left table tree places lines (best .standings) (rw (best .least) at s))
 
   module _ (s : m < none) where
@@ -144,7 +138,7 @@ module _ (b : List ℕ) (l : Layout) (known : Known b l) (numbers₀ left number
         omega (arith, f .left-is r lr, left-falls (bookOf (accountOf b l)) (available (accountOf b l)) k r, row-within b l ok r lr .q-most)
 
     pub round-room : k + 2 ≤ l .positions
-    round-room = rounds-left (accountOf b l) numbers₀ k total left numbers f (m / 256 % 256) (m % 256) picks
+    round-room = rounds-left (accountOf b l) k total left numbers f (m / 256 % 256) (m % 256) picks
 
     pub round-few : l .positions ≤ 256
     round-few = ok .placed .positions-most
@@ -170,5 +164,5 @@ module _ (b : List ℕ) (l : Layout) (known : Known b l) (numbers₀ left number
 
     pub round-turns : (left′ numbers′ : List ℕ) (amount : ℕ)
         → PairWritten (accountOf b l) k (m / 256 % 256) (m % 256) left numbers left′ numbers′ amount
-        → PairedBy (k + 1) (accountOf b l) numbers₀ left′ numbers′ (tally (k + 1) (total + amount))
-    round-turns = turned (accountOf b l) numbers₀ k total left numbers f (m / 256 % 256) (m % 256) picks
+        → PairedBy (k + 1) (accountOf b l) left′ numbers′ (tally (k + 1) (total + amount))
+    round-turns = turned (accountOf b l) k total left numbers f (m / 256 % 256) (m % 256) picks

@@ -43,7 +43,6 @@ pub record PairWritten (a : Account) (k w h : ℕ) (left₀ numbers₀ left numb
   pub left-is : (r : ℕ) → r < a .positions → nth left r ≡ taken (nth left₀) (Pair w h) r
   pub line-is : lineFrom numbers k ≡ pairLine a (pairOf left₀ w h)
   pub before : (i : ℕ) → i < numbersPerLine * k → nth numbers i ≡ nth numbers₀ i
-  pub after : (i : ℕ) → numbersPerLine * k + numbersPerLine ≤ i → nth numbers i ≡ nth numbers₀ i
   pub left-length : length left ≡ length left₀
   pub numbers-length : length numbers ≡ length numbers₀
 
@@ -56,14 +55,12 @@ pub record PairingAsked (b : List ℕ) (l : Layout) (table left numbers : List �
   pub contracts : (r : ℕ) → r < l .positions → nth left r ≡ available (accountOf b l) r
 
 -- After n rounds, of which `count` made a pair.
-pub record PairedBy (n : ℕ) (a : Account) (numbers₀ left numbers : List ℕ) (t : Tally) : Type 0 where
+pub record PairedBy (n : ℕ) (a : Account) (left numbers : List ℕ) (t : Tally) : Type 0 where
   pub count-is : t .count ≡ length (madeAfter (bookOf a) n (available a))
   pub total-is : t .total ≡ sumOver (spreadAmount a) (madeAfter (bookOf a) n (available a))
   pub total-most : t .total ≤ 10_000_000_000_000_000 * t .count
   pub left-is : (r : ℕ) → r < a .positions → nth left r ≡ leftAfter (bookOf a) n (available a) r
   pub lines-are : linesFrom numbers (t .count) ≡ pairLines a (madeAfter (bookOf a) n (available a))
-  pub after : (i : ℕ) → numbersPerLine * t .count ≤ i → nth numbers i ≡ nth numbers₀ i
-  pub numbers-length : length numbers ≡ length numbers₀
 
 -- What a round asks: the rows stand, and what the pairing asks of contracts and room.
 pub record RoundsAsked (b : List ℕ) (l : Layout) (left numbers table tree places : List ℕ) : Type 0 where
@@ -72,11 +69,11 @@ pub record RoundsAsked (b : List ℕ) (l : Layout) (left numbers table tree plac
   pub contracts : (r : ℕ) → r < l .positions → nth left r ≡ available (accountOf b l) r
 
 -- All pairs made: as many rounds as the account has rows.
-abbrev pub Paired : Account → List ℕ → List ℕ → List ℕ → Tally → Type 0
+abbrev pub Paired : Account → List ℕ → List ℕ → Tally → Type 0
 Paired a = PairedBy (a .positions) a
 
 -- All pairs made, and the unit margins of the written rows in the table.
-pub record PairedUp (a : Account) (numbers₀ table left numbers : List ℕ) (t : Tally) : Type 0 where
-  pub paired : Paired a numbers₀ left numbers t
+pub record PairedUp (a : Account) (table left numbers : List ℕ) (t : Tally) : Type 0 where
+  pub paired : Paired a left numbers t
   pub units : Units a table
   pub room : tableSize ≤ length table

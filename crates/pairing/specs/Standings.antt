@@ -195,12 +195,20 @@ pub record Lined (a : Account) (old table : List ℕ) : Type 0 where
   pub lines : Lines a table
   pub same : (i : ℕ) → i < lineColumn → nth table i ≡ nth old i
 
--- A table in which no row stands in line, and the table filled.
+-- A table in which no row stands in line.
 pub record TableNew (b : List ℕ) (l : Layout) (table : List ℕ) : Type 0 where
   pub file : Known b l
   pub room : tableSize ≤ length table
   pub no-lines : (v : ℕ) → v < mostPositions → lineAfter table v ≡ 0
 
+-- The same, and room for what the table is made with.
+pub record FillAsked (b : List ℕ) (l : Layout) (table written keys starts : List ℕ) : Type 0 where
+  pub table-new : TableNew b l table
+  pub written-room : mostPositions ≤ length written
+  pub keys-room : mostPositions ≤ length keys
+  pub starts-room : mostPositions ≤ length starts
+
+-- The table filled.
 pub record Prepared (a : Account) (table : List ℕ) : Type 0 where
   pub filled : Table a table
   pub lines : Lines a table

@@ -24,7 +24,7 @@ fn pair_rounds(
     places: &mut [u64],
 ) -> Tally
     requires { ⌜ RoundsAsked (now file) l (now left) (now numbers) (now table) (now tree) (now places) ⌝ }
-    ensures { λ t. ⌜ Paired (accountOf (now (file .entry)) l) (now (numbers .entry)) (now (left .exit)) (now (numbers .exit)) t ⌝ }
+    ensures { λ t. ⌜ Paired (accountOf (now (file .entry)) l) (now (left .exit)) (now (numbers .exit)) t ⌝ }
 {
     let mut k: usize = 0;
     let mut total: u64 = 0;
@@ -42,7 +42,7 @@ fn pair_rounds(
 
 // All pairs of an accepted file: left holds the contracts of each row and is lowered, the pairs are written as lines
 // from line 0 on, and their amounts added up. The table is filled on the way, and has the unit margins for the lines of
-// rows left.
+// rows left. It is made with the lists that are written anew after it, so that a call sets no further ones to 0.
 pub fn pair_up(
     file: &[u8],
     l: Layout,
@@ -51,12 +51,12 @@ pub fn pair_up(
     numbers: &mut [u64],
 ) -> Tally
     requires { ⌜ PairingAsked (now file) l (now table) (now left) (now numbers) ⌝ }
-    ensures { λ t. ⌜ PairedUp (accountOf (now (file .entry)) l) (now (numbers .entry)) (now (table .exit)) (now (left .exit)) (now (numbers .exit)) t ⌝ }
+    ensures { λ t. ⌜ PairedUp (accountOf (now (file .entry)) l) (now (table .exit)) (now (left .exit)) (now (numbers .exit)) t ⌝ }
 {
-    fill_rows(file, l, table);
     let mut tree = [0u64; TREE_SIZE];
-    set_leaves(&mut tree, l.positions, NONE);
     let mut places = [0u64; PLACES_SIZE];
+    fill_rows(file, l, table, numbers, &mut tree, &mut places);
+    set_leaves(&mut tree, l.positions, NONE);
     begin_rows(file, l, left, table, &mut tree, &mut places);
     pair_rounds(file, l, left, numbers, table, &mut tree, &mut places)
 }

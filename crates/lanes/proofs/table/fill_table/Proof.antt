@@ -3,27 +3,34 @@ use Rattle.lanes.proofs.TableLaws.{row-most, table-filled}
 use Rattle.lanes.proofs.table.fill_table.Statement.{statement}
 use Rattle.lanes.proofs.table.fill_table.Tie as tie
 use Rattle.rules.specs.File.{accountOf}
+use borrow.Author.Needs.{needs}
 use denote.Ref.{now}
 use mathlib.Core.Path.{_∙_}
 use native.Mathlib.Omega.{arith}
 
 fill-marks-requires : tie.Need-fill-marks-requires
-fill-marks-requires c κs = (c .before .before .before .before .pre .file, omega (arith, c .before .before .before .before .pre .room))
+fill-marks-requires c κs = (c .before .before .before .before .before .before .pre .file, omega (arith, c .before .before .before .before .before .before .pre .room))
 
 fill-keys-requires : tie.Need-fill-keys-requires
-fill-keys-requires c κs = record { few = (ranged (now (c .before .before .before .before .before .before .before .before .before .args .file)) (c .before .before .before .before .before .before .before .before .before .args .l) (c .before .before .before .before .before .before .before .before .before .pre .file)) .rows-most; room = omega (arith, (ranged (now (c .before .before .before .before .before .before .before .before .before .args .file)) (c .before .before .before .before .before .before .before .before .before .args .l) (c .before .before .before .before .before .before .before .before .before .pre .file)) .rows-most, c .before .before .before .before .before .before .before .before .before .pre .room, c .before .before .before .before .fill-marks .kept .1 .1 .0); keys-room = c .before .before .before .before .before .before .before .before .before .pre .written-room }
+fill-keys-requires c κs = record { few = (ranged (now (c .before .before .before .before .before .before .before .before .before .before .before .args .file)) (c .before .before .before .before .before .before .before .before .before .before .before .args .l) (c .before .before .before .before .before .before .before .before .before .before .before .pre .file)) .rows-most; room = omega (arith, (ranged (now (c .before .before .before .before .before .before .before .before .before .before .before .args .file)) (c .before .before .before .before .before .before .before .before .before .before .before .args .l) (c .before .before .before .before .before .before .before .before .before .before .before .pre .file)) .rows-most, c .before .before .before .before .before .before .before .before .before .before .before .pre .room, c .before .before .before .before .fill-marks .kept .1 .1 .0); keys-room = c .before .before .before .before .before .before .before .before .before .before .before .pre .written-room }
 
 fill-links-requires : tie.Need-fill-links-requires
-fill-links-requires c κs = record { few = (ranged (now (c .before .before .before .before .before .before .before .before .before .before .before .before .before .before .args .file)) (c .before .before .before .before .before .before .before .before .before .before .before .before .before .before .args .l) (c .before .before .before .before .before .before .before .before .before .before .before .before .before .before .pre .file)) .rows-most; room = omega (arith, c .before .before .before .before .before .before .before .before .before .before .before .before .before .before .pre .room, c .before .before .before .before .before .before .before .before .before .fill-marks .kept .1 .1 .0); placed = row-most (accountOf (now (c .before .before .before .before .before .before .before .before .before .before .before .before .before .before .args .file)) (c .before .before .before .before .before .before .before .before .before .before .before .before .before .before .args .l)) (ranged (now (c .before .before .before .before .before .before .before .before .before .before .before .before .before .before .args .file)) (c .before .before .before .before .before .before .before .before .before .before .before .before .before .before .args .l) (c .before .before .before .before .before .before .before .before .before .before .before .before .before .before .pre .file)) (c .before .before .before .before .before .before .before .before .before .fill-marks .last .1 .1 .0) (c .before .before .before .before .before .before .before .before .before .fill-marks .ensures .marks); written-room = omega (arith, (ranged (now (c .before .before .before .before .before .before .before .before .before .before .before .before .before .before .args .file)) (c .before .before .before .before .before .before .before .before .before .before .before .before .before .before .args .l) (c .before .before .before .before .before .before .before .before .before .before .before .before .before .before .pre .file)) .rows-most, c .before .before .before .before .fill-keys .ensures .few, c .before .before .before .before .before .before .before .before .before .before .before .before .before .before .pre .written-room, c .before .before .before .before .fill-keys .kept .1 .1 .1 .0); sorted = c .before .before .before .before .fill-keys .ensures }
+fill-links-requires c κs = record { few = (ranged (now (c .before .before .before .before .before .before .before .before .before .before .before .before .before .before .before .before .before .before .args .file)) (c .before .before .before .before .before .before .before .before .before .before .before .before .before .before .before .before .before .before .args .l) (c .before .before .before .before .before .before .before .before .before .before .before .before .before .before .before .before .before .before .pre .file)) .rows-most; room = omega (arith, c .before .before .before .before .before .before .before .before .before .before .before .before .before .before .before .before .before .before .pre .room, c .before .before .before .before .before .before .before .before .before .before .before .fill-marks .kept .1 .1 .0); placed = row-most (accountOf (now (c .before .before .before .before .before .before .before .before .before .before .before .before .before .before .before .before .before .before .args .file)) (c .before .before .before .before .before .before .before .before .before .before .before .before .before .before .before .before .before .before .args .l)) (ranged (now (c .before .before .before .before .before .before .before .before .before .before .before .before .before .before .before .before .before .before .args .file)) (c .before .before .before .before .before .before .before .before .before .before .before .before .before .before .before .before .before .before .args .l) (c .before .before .before .before .before .before .before .before .before .before .before .before .before .before .before .before .before .before .pre .file)) (c .before .before .before .before .before .before .before .before .before .before .before .fill-marks .last .1 .1 .0) (c .before .before .before .before .before .before .before .before .before .before .before .fill-marks .ensures .marks); written-room = omega (arith, (ranged (now (c .before .before .before .before .before .before .before .before .before .before .before .before .before .before .before .before .before .before .args .file)) (c .before .before .before .before .before .before .before .before .before .before .before .before .before .before .before .before .before .before .args .l) (c .before .before .before .before .before .before .before .before .before .before .before .before .before .before .before .before .before .before .pre .file)) .rows-most, c .before .before .before .before .before .before .fill-keys .ensures .few, c .before .before .before .before .before .before .before .before .before .before .before .before .before .before .before .before .before .before .pre .written-room, c .before .before .before .before .before .before .fill-keys .kept .1 .1 .1 .0); sorted = c .before .before .before .before .before .before .fill-keys .ensures; keys-room = c .before .before .before .before .before .before .before .before .before .before .before .before .before .before .before .before .before .before .pre .keys-room; starts-room = c .before .before .before .before .before .before .before .before .before .before .before .before .before .before .before .before .before .before .pre .starts-room }
 
 same-length : tie.Need-same-length
-same-length c = c .before .before .fill-links .kept .0 ∙ c .before .before .before .before .before .before .before .before .before .before .before .before .fill-marks .kept .1 .1 .0
+same-length c = c .before .before .before .before .before .before .fill-links .kept .0 ∙ c .before .before .before .before .before .before .before .before .before .before .before .before .before .before .before .before .before .before .fill-marks .kept .1 .1 .0
 
 same-length-2 : tie.Need-same-length-2
-same-length-2 c = c .before .before .before .before .before .before .before .fill-keys .kept .1 .1 .1 .0
+same-length-2 c = c .before .before .before .before .before .before .before .before .before .before .before .before .before .fill-keys .kept .1 .1 .1 .0
+
+same-length-3 : tie.Need-same-length-3
+same-length-3 c = search needs
+
+same-length-4 : tie.Need-same-length-4
+same-length-4 c = search needs
 
 returns : tie.Need-returns
-returns c = table-filled (accountOf (now (c .before .before .before .before .before .before .before .before .before .before .before .before .before .before .before .before .before .args .file)) (c .before .before .before .before .before .before .before .before .before .before .before .before .before .before .before .before .before .args .l)) (ranged (now (c .before .before .before .before .before .before .before .before .before .before .before .before .before .before .before .before .before .args .file)) (c .before .before .before .before .before .before .before .before .before .before .before .before .before .before .before .before .before .args .l) (c .before .before .before .before .before .before .before .before .before .before .before .before .before .before .before .before .before .pre .file)) (now (c .before .before .before .before .before .before .before .before .before .before .before .before .before .before .before .before .before .args .table)) (c .before .before .before .before .before .before .before .before .before .before .before .before .fill-marks .last .1 .1 .0) (c .before .before .fill-links .last .0) (c .before .before .before .before .before .before .before .fill-keys .last .1 .1 .1 .0) (c .before .before .before .before .before .before .before .fill-keys .result) (omega (arith, c .before .before .before .before .before .before .before .before .before .before .before .before .before .before .before .before .before .pre .room, c .before .before .before .before .before .before .before .before .before .before .before .before .fill-marks .kept .1 .1 .0, c .before .before .fill-links .kept .0)) (c .before .before .before .before .before .before .before .before .before .before .before .before .fill-marks .ensures) (c .before .before .before .before .before .before .before .fill-keys .ensures) (c .before .before .fill-links .ensures)
+returns c = table-filled (accountOf (now (c .before .before .before .before .before .before .before .before .before .before .before .before .before .before .before .before .before .before .before .before .before .before .before .before .before .args .file)) (c .before .before .before .before .before .before .before .before .before .before .before .before .before .before .before .before .before .before .before .before .before .before .before .before .before .args .l)) (ranged (now (c .before .before .before .before .before .before .before .before .before .before .before .before .before .before .before .before .before .before .before .before .before .before .before .before .before .args .file)) (c .before .before .before .before .before .before .before .before .before .before .before .before .before .before .before .before .before .before .before .before .before .before .before .before .before .args .l) (c .before .before .before .before .before .before .before .before .before .before .before .before .before .before .before .before .before .before .before .before .before .before .before .before .before .pre .file)) (now (c .before .before .before .before .before .before .before .before .before .before .before .before .before .before .before .before .before .before .before .before .before .before .before .before .before .args .table)) (c .before .before .before .before .before .before .before .before .before .before .before .before .before .before .before .before .before .before .fill-marks .last .1 .1 .0) (c .before .before .before .before .before .before .fill-links .last .0) (c .before .before .before .before .before .before .before .before .before .before .before .before .before .fill-keys .last .1 .1 .1 .0) (c .before .before .before .before .before .before .before .before .before .before .before .before .before .fill-keys .result) (omega (arith, c .before .before .before .before .before .before .before .before .before .before .before .before .before .before .before .before .before .before .before .before .before .before .before .before .before .pre .room, c .before .before .before .before .before .before .before .before .before .before .before .before .before .before .before .before .before .before .fill-marks .kept .1 .1 .0, c .before .before .before .before .before .before .fill-links .kept .0)) (c .before .before .before .before .before .before .before .before .before .before .before .before .before .before .before .before .before .before .fill-marks .ensures) (c .before .before .before .before .before .before .before .before .before .before .before .before .before .fill-keys .ensures) (c .before .before .before .before .before .before .fill-links .ensures)
 
 pub fill-table-spec : {M : Type 1} → statement M
 fill-table-spec =
@@ -34,4 +41,6 @@ fill-table-spec =
     fill-links-requires
     same-length
     same-length-2
+    same-length-3
+    same-length-4
     returns)
