@@ -9,7 +9,7 @@ use lib.ListN.{length, set, length-set}
 use lib.Seq.{getD-set-other, getD-set-same}
 use Rattle.numbers.proofs.Order.{same, split}
 use Rattle.numbers.specs.Lists.{nth}
-use Rattle.tree.specs.Tree.{LeafPut, LeafSet, LeavesSet, Node, SameLeaves, Tree, leaf}
+use Rattle.tree.specs.Tree.{LeafPut, LeafSet, LeavesSet, Node, SameLeaves, Tree, leaf, sibling}
 
 -- A store at i: what it leaves of node j, and what it makes of node i.
 module _ (t : List ℕ) (i y : ℕ) where
@@ -57,6 +57,20 @@ pub record Climbed (p : ℕ) (start t : List ℕ) (i : ℕ) : Type 0 where
   pub leaves : SameLeaves p start t
   pub same-length : length t ≡ length start
 
+-- A parent is the smaller of the child that is x and the other one.
+parent-is : (t : List ℕ) (i x y : ℕ) → nth t i ≡ x → y ≡ min x (nth t (sibling i))
+    → y ≡ min (nth t (2 * (i / 2))) (nth t (2 * (i / 2) + 1))
+parent-is t i x y here e = go (same i (2 * (i / 2)))
+  where
+    go : (i ≡ 2 * (i / 2)) ⊎ (i ≡ 2 * (i / 2) → ⊥) → y ≡ min (nth t (2 * (i / 2))) (nth t (2 * (i / 2) + 1))
+    go (inl q) =
+        let other : sibling i ≡ 2 * (i / 2) + 1 = omega arith in
+        omega (arith, e, here, ap (nth t) q, ap (nth t) other)
+    go (inr s) =
+        let q : i ≡ 2 * (i / 2) + 1 = omega arith in
+        let other : sibling i ≡ 2 * (i / 2) = omega arith in
+        omega (arith, e, here, ap (nth t) q, ap (nth t) other)
+
 pub climb-none : (p : ℕ) (old : List ℕ) (w x : ℕ) → w < p → Tree p old
     → Climbed p (set old (p + w) x) (set old (p + w) x) (p + w)
 climb-none p old w x few r =
@@ -68,9 +82,9 @@ climb-none p old w x few r =
     }
 
 module _ (p : ℕ) (start t : List ℕ) (i : ℕ) (f : Climbed p start t i) where
-  pub climb-more : (y : ℕ) → 2 * p ≤ length start → 1 < i → y ≡ min (nth t (2 * (i / 2))) (nth t (2 * (i / 2) + 1))
+  pub climb-more : (x y : ℕ) → 2 * p ≤ length start → 1 < i → nth t i ≡ x → y ≡ min x (nth t (sibling i))
       → Climbed p start (set t (i / 2) y) (i / 2)
-  climb-more y long more e =
+  climb-more x y long more here is =
       record {
         high = omega (arith, f .high);
         nodes = λ j a b d. at j a b d (same j (i / 2));
@@ -78,6 +92,9 @@ module _ (p : ℕ) (start t : List ℕ) (i : ℕ) (f : Climbed p start t i) wher
         same-length = simp length-set (f .same-length);
       }
     where
+      e : y ≡ min (nth t (2 * (i / 2))) (nth t (2 * (i / 2) + 1))
+      e = parent-is t i x y here is
+
       at : (j : ℕ) → 1 ≤ j → j < p → (j ≡ i / 2 / 2 → ⊥) → (j ≡ i / 2) ⊎ (j ≡ i / 2 → ⊥) → Node (set t (i / 2) y) j
       at j a b d (inl q) = rw q (node-here t (i / 2) y (omega (arith, f .same-length, f .high)) (omega arith) e)
       at j a b d (inr s) = node-other t (i / 2) y j (f .nodes j a b s) s (λ q. d (omega arith)) (λ q. d (omega arith))

@@ -1,6 +1,6 @@
 -- A tournament tree of minima over p leaves: node i, from 1 to p - 1, is the smaller of nodes 2i and 2i + 1; leaf w is node
 -- p + w. Node 1 is then the least of all leaves, for any p from 1 on.
-use Prim.Native.Nat.{ℕ, _+_, _*_, _≤_, _<_, min}
+use Prim.Native.Nat.{ℕ, _+_, _*_, _-_, _%_, _≤_, _<_, min}
 use mathlib.Core.List.{List}
 use mathlib.Core.Path.{_≡_}
 use lib.ListN.{length}
@@ -12,6 +12,10 @@ leaf p t w = nth t (p + w)
 -- Node i is the smaller of its children.
 abbrev pub Node : List ℕ → ℕ → Type 0
 Node t i = nth t i ≡ min (nth t (2 * i)) (nth t (2 * i + 1))
+
+-- The other child of node i's parent.
+abbrev pub sibling : ℕ → ℕ
+sibling i = i + 1 - i % 2 * 2
 
 abbrev pub Tree : ℕ → List ℕ → Type 0
 Tree p t = (i : ℕ) → 1 ≤ i → i < p → Node t i

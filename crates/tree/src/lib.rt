@@ -6,7 +6,7 @@ ghost use lib.ListN.{length};
 ghost use mathlib.Core.Bool.{true};
 ghost use mathlib.Core.Path.{_≡_};
 ghost use Rattle.numbers.specs.Lists.{nth};
-ghost use Rattle.tree.specs.Tree.{LeafPut, LeafSet, Leafed, LeavesSet, SameLeaves, Tree};
+ghost use Rattle.tree.specs.Tree.{LeafPut, LeafSet, Leafed, LeavesSet, SameLeaves, Tree, sibling};
 
 // The smaller of node i's children.
 fn lesser_child(tree: &[u64], i: usize) -> u64
@@ -40,16 +40,27 @@ pub fn set_leaves(tree: &mut [u64], p: usize, x: u64)
     }
 }
 
-// Leaf w set to x, and the nodes above it made anew.
+// What node i's parent is where node i is x: the smaller of x and the parent's other child.
+fn parent_of(tree: &[u64], i: usize, x: u64) -> u64
+    requires { ⌜ (i < 512) × (sibling i < length (now tree)) ⌝ }
+    ensures { λ r. ⌜ r ≡ min x (nth (now (tree .entry)) (sibling i)) ⌝ }
+{
+    smaller(x, tree[i + 1 - i % 2 * 2])
+}
+
+// Leaf w set to x, and the nodes above it made anew. Each is worked out of the number below it that was just stored, which
+// is not read back.
 pub fn set_leaf(tree: &mut [u64], p: usize, w: usize, x: u64)
     requires { ⌜ Leafed p (now tree) × (w < p) × Tree p (now tree) ⌝ }
     ensures { λ _. ⌜ LeafSet p (now (tree .entry)) (now (tree .exit)) w x ⌝ }
 {
     let mut i = p + w;
-    tree[i] = x;
+    let mut y = x;
+    tree[i] = y;
     while 1 < i {
+        y = parent_of(tree, i, y);
         i = i / 2;
-        tree[i] = lesser_child(tree, i);
+        tree[i] = y;
     }
 }
 
