@@ -21,6 +21,8 @@ use Rattle.rules.specs.Pairs.{available, isWritten}
 use Rattle.rules.specs.declared.Layout.{Layout}
 use Rattle.rules.specs.declared.Position.{Position}
 use Rattle.rules.specs.declared.Series.{Series}
+use Rattle.rules.specs.declared.Side.{Side}
+use Rattle.rules.specs.declared.Side.the-variants.{Held, Written}
 
 module _ (b : List ℕ) (l : Layout) (row : ℕ) (s : Series) (p : Position) (ep : p ≡ accountOf b l .positionAt row) (es : s ≡ accountOf b l .seriesAt (p .series)) where
   pub read-fits : Known b l → row < l .positions → RowFits s p
@@ -37,6 +39,14 @@ module _ (b : List ℕ) (l : Layout) (row : ℕ) (s : Series) (p : Position) (ep
 
   pub premium-is : heldPremium (p .side) s p ≡ rowPremium (accountOf b l) row
   premium-is = at-row (λ s p. heldPremium (p .side) s p ≡ rowPremium (accountOf b l) row) (accountOf b l) row s p ep es refl
+
+  -- A row without a premium, whichever its side.
+  pub no-premium : p .premium ≡ 0 → 0 ≡ rowPremium (accountOf b l) row
+  no-premium e = by-side (p .side) ∙ premium-is
+    where
+      by-side : (side : Side) → 0 ≡ heldPremium side s p
+      by-side Held = rw e (omega arith)
+      by-side Written = refl
 
   pub left-is : (q : ℕ) → leftAmount (p .side) s p q ≡ leftAmountAt (accountOf b l) row q
   left-is q = at-row (λ s p. leftAmount (p .side) s p q ≡ leftAmountAt (accountOf b l) row q) (accountOf b l) row s p ep es refl

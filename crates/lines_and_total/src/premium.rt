@@ -27,12 +27,15 @@ fn held_premium(s: Series, p: Position) -> u64
     }
 }
 
-// The premium of a row of an accepted file.
+// The premium of a row of an accepted file. Most rows have none; then the row's series is not read.
 fn row_premium(file: &[u8], l: Layout, row: usize) -> u64
     requires { ⌜ Known (now file) l × (row < l .positions) ⌝ }
     ensures { λ r. ⌜ (r ≡ rowPremium (accountOf (now (file .entry)) l) row) × (r ≤ 1_000_000_000_000_000) ⌝ }
 {
     let p = position_at(file, l, row);
+    if p.premium == 0 {
+        return 0;
+    }
     let s = series_of_position(file, l, p);
     held_premium(s, p)
 }
