@@ -41,6 +41,7 @@ def amounts(checked):
 
 ROWS_ON_THE_COVER = pack(SERIES, series()) + pack(POSITION, position(kind=9))
 LARGEST = account([series(10_000_000, 10_000_000, 0, 0, 1000)], [position(q=100_000, pe=1)])
+NO_POSITIONS = account(CALL + PUT, [], cover=b'all positions have expired\n')
 
 ACCEPTED = [
     (account(CALL, rows(CHECKED_CALLS)), amounts(CHECKED_CALLS)),
@@ -56,6 +57,12 @@ ACCEPTED = [
     (account(CALL, [position()], cover=ROWS_ON_THE_COVER), [25_000]),
     (account([series()] * 32, [position(series=31)] * 256), [25_000] * 256),
     (account([series()] * 32, [position(series=i % 32) for i in range(256)], cover=b'\xff' * 56_564), [25_000] * 256),
+    # no positions, of one series and of 32, without a cover sheet and with one: no amounts
+    (account(CALL, []), []),
+    (account([series()] * 32, []), []),
+    (account(CALL, [], cover=ROWS_ON_THE_COVER), []),
+    (account([series()] * 32, [], cover=ROWS_ON_THE_COVER), []),
+    (NO_POSITIONS, []),
     # numbers at the ends of their ranges
     (account([series(10_000_000, 10_000_000, 10_000_000, 1_000_000, 1000)], [position(q=100_000, pe=10_000_000)]), [9_000_000_000_000_000]),
     (account([series(1, 1_000_000, 0, 0, 1)], [position(q=1, pe=1)]), [0]),
@@ -80,15 +87,21 @@ REFUSED = [
     (account(CALL, [position()], tail=(0, 0, 0, 1)), 'refused 2 0'),
     (account(CALL, [position()], tail=(1, 0, 0, 0)), 'refused 2 0'),
     (account([], [], distance=12), 'refused 2 0'),
-    # 3: no positions
-    (account(CALL, []), 'refused 3 0'),
-    (account(CALL, [], distance=7), 'refused 3 0'),
+    (account(CALL, [], s=0), 'refused 2 0'),
+    (account(CALL, [], tail=(0, 0, 0, 1)), 'refused 2 0'),
+    (account(CALL, [], tail=(1, 0, 0, 0), distance=7), 'refused 2 0'),
+    # 3 is given to no file
     # 4: the distance
     (account(CALL, [position()], distance=67), 'refused 4 0'),
     (account(CALL, [position()], distance=69), 'refused 4 0'),
     (account(CALL, [position()], distance=0xffffffff), 'refused 4 0'),
     (account(CALL, [position()])[1:], 'refused 4 0'),
     (account(CALL, [position()], s=2), 'refused 4 0'),
+    (account(CALL, [], distance=7), 'refused 4 0'),
+    (account(CALL, [], distance=35), 'refused 4 0'),
+    (account(CALL, [], distance=37), 'refused 4 0'),
+    (account(CALL, [])[1:], 'refused 4 0'),
+    (account([series(pv=0)], [], distance=37), 'refused 4 0'),
     # 5: a series' ranges, in the first and in the last row
     (account([series(pv=0)], [position()]), 'refused 5 0'),
     (account([series(pv=10_000_001)], [position()]), 'refused 5 0'),
@@ -98,10 +111,16 @@ REFUSED = [
     (account([series(f3=1_000_001)], [position()]), 'refused 5 0'),
     (account([series(m=0)], [position()]), 'refused 5 0'),
     (account([series(), series(), series(m=1001)], [position()]), 'refused 5 2'),
+    (account([series(), series(m=0)], []), 'refused 5 1'),
+    (account([series()] * 31 + [series(pv=0)], []), 'refused 5 31'),
+    # the trailer counts no positions, so that the 24 bytes before it, Q 10 and PE 3100 first, are the series row
+    (account(CALL, [position()], p=0), 'refused 5 0'),
     # 6: a series' type and spare bytes
     (account([series(option=2)], [position()]), 'refused 6 0'),
     (account([series(spare=(1, 0, 0))], [position()]), 'refused 6 0'),
     (account([series(), series(spare=(0, 0, 1))], [position()]), 'refused 6 1'),
+    (account([series(), series(option=2)], []), 'refused 6 1'),
+    (account([series(), series(spare=(0, 1, 0))], []), 'refused 6 1'),
     # 7: series, side, kind, flags, spare bytes
     (one(series=1), 'refused 7 0'),
     (one(series=65_535), 'refused 7 0'),
@@ -168,4 +187,5 @@ write('examples/document.account', EXAMPLE)
 write('examples/knock_in.account', account(CALL, rows(CHECKED_CALLS[2:6]), cover=b'knock-in calls\n'))
 write('examples/knock_out.account', account(CALL, rows(CHECKED_CALLS[6:10]), cover=b'knock-out calls\n'))
 write('examples/largest.account', LARGEST)
+write('examples/no_positions.account', NO_POSITIONS)
 write('examples/wrong_side.account', last(kind=4, price=3001))

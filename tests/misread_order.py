@@ -4,10 +4,6 @@ TRAILER_2 = '''    if s == 0 || s > 32 || p > 256 || last_four != [0, 0, 0, 0] {
         return Err(2);
     }
 '''
-TRAILER_3 = '''    if p == 0 {
-        return Err(3);
-    }
-'''
 TRAILER_4 = '''    if stated_distance != distance(s, p) || stated_distance > bytes.len() {
         return Err(4);
     }
@@ -60,6 +56,15 @@ KEEP_SERIES_FAULT = '''        series.push(read_series(row_bytes).unwrap_or_else
 SERIES_START = '    let mut series = Vec::with_capacity(series_count);\n'
 POSITIONS_START = '    let mut positions = Vec::with_capacity(position_count);\n'
 READ = '    Ok(Account { series, positions })\n'
+FILE_TOO_SHORT = '''    if distance(s, p) > bytes.len() {
+        return Err(4);
+    }
+'''
+DISTANCE_AFTER_SERIES = '''    let stated_distance = u32_at(bytes, bytes.len() - 8) as usize;
+    if stated_distance != distance(series_count, position_count) {
+        return Err(Refusal { number: 4, row: 0 });
+    }
+'''
 
 
 def earlier(anchor, check):
@@ -72,10 +77,10 @@ def swapped(first, second):
 
 
 TABLE = [
-    ('2 after 3', 'p = 0 before s, p above 256 and the last bytes', swapped(TRAILER_2, TRAILER_3)),
-    ('3 after 4', 'the distance before p = 0', swapped(TRAILER_3, TRAILER_4)),
     ('2 after 4', 'the distance before the counts and the last bytes', [
         (READER, TRAILER_4, ''), (READER, TRAILER_2, TRAILER_4 + TRAILER_2)]),
+    ('4 after 6', 'the distance after the series rows', [
+        (READER, TRAILER_4, FILE_TOO_SHORT), (READER, POSITIONS_START, DISTANCE_AFTER_SERIES + POSITIONS_START)]),
     ('5 after 6', 'type and spare bytes before PV, fa, fb, f3 and M', swapped(SERIES_5, '\n' + SERIES_6)),
     ('7 after 8', 'Q, PE, REB and premium before series, side, kind and flags', earlier(CHECK_7, CHECK_8)),
     ('8 after 9', 'PB before Q, PE, REB and premium', earlier(CHECK_8, CHECK_9)),

@@ -1,5 +1,5 @@
 #!/usr/bin/env python3
-"""Puts misreadings of document 01 into copies of the reference, one at a time, and counts the accounts that notice.
+"""Puts misreadings of documents 01 and 02 into copies of the reference one by one, and counts the accounts that notice.
 
 The tables stand in the files misread_*.py beside this one. A misreading there is a name, what is misread, and a list of
 changes: a file below reference/src, a text that stands in it exactly once, and the text put in its place. Each changed
@@ -14,6 +14,7 @@ import sys
 import tempfile
 
 import misread_file
+import misread_no_positions
 import misread_order
 import misread_pairs
 import misread_positions
@@ -24,7 +25,7 @@ from account_batch import answers_of, vector_bytes
 
 PROGRAM = 'margin_reference_batch'
 MODULES = ['account', 'lines', 'output', 'pairing', 'position', 'position_row', 'reader', 'spread']
-TABLES = [misread_positions, misread_spreads, misread_pairs, misread_file, misread_order]
+TABLES = [misread_positions, misread_spreads, misread_pairs, misread_file, misread_no_positions, misread_order]
 
 
 def sources():

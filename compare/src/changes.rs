@@ -16,13 +16,14 @@ pub enum Change {
     ListOnRefusal,
     Amount,
     MissingRow,
+    NoRowsRefused,
     Premiums,
     PremiumsRefused,
     FileWritten,
     ReadingOutside,
 }
 
-pub const CHANGES: [(&str, Change); 16] = [
+pub const CHANGES: [(&str, Change); 17] = [
     ("total", Change::Total),
     ("line-count", Change::LineCount),
     ("line-amount", Change::LineAmount),
@@ -35,6 +36,7 @@ pub const CHANGES: [(&str, Change); 16] = [
     ("list-on-refusal", Change::ListOnRefusal),
     ("amount", Change::Amount),
     ("missing-row", Change::MissingRow),
+    ("no-rows-refused", Change::NoRowsRefused),
     ("premiums", Change::Premiums),
     ("premiums-refused", Change::PremiumsRefused),
     ("file-written", Change::FileWritten),
@@ -95,11 +97,14 @@ fn change_accepted(change: Change, margin: &mut Margin, entries: &mut [Line]) {
     let lines = margin.lines as usize;
     match change {
         Change::Total => margin.total += 1,
-        Change::LineCount => margin.lines -= 1,
+        // One less, or one where there is none.
+        Change::LineCount => margin.lines = margin.lines.checked_sub(1).unwrap_or(1),
         Change::LineAmount if entries[0][KIND] == 1 => entries[0][FOURTH] += 1,
         Change::LeftOrder if lines >= 2 && entries[lines - 2][KIND] == 2 => {
             entries.swap(lines - 2, lines - 1);
         }
+        // An account has no lines where it has no positions; this number was given for that.
+        Change::NoRowsRefused if lines == 0 => margin.refusal = 3,
         _ => {}
     }
 }

@@ -35,11 +35,10 @@ pub fn compare_file(
     lending: &mut Lending,
     summary: &mut Summary,
 ) -> Result<(), Box<Difference>> {
-    let reading = read_account(&file.bytes);
-    let position_count = reading.as_ref().ok().map(|account| account.positions.len());
+    let position_count = read_account(&file.bytes).map(|account| account.positions.len());
     let copies = lending.lend(&file.bytes);
     let mut turn = file.number as usize;
-    for (question, purpose) in questions(file.seed_of_questions, position_count) {
+    for (question, purpose) in questions(file.seed_of_questions, position_count.ok()) {
         turn += 1;
         let copy = copies[turn % 2];
         let expected = answer(reference, &file.bytes, question);
@@ -53,7 +52,7 @@ pub fn compare_file(
         }
         summary.add_answer(&expected, purpose);
     }
-    summary.add_file(file, reading.err().map(|refusal| refusal.number));
+    summary.add_file(file, position_count);
     Ok(())
 }
 

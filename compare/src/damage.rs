@@ -165,7 +165,7 @@ fn field_at_boundary(random: &mut Random, file: &mut Damaged) -> bool {
 
 /// Place in the file and width of a field of any row.
 fn random_field(random: &mut Random, file: &Damaged, first: usize) -> (usize, usize) {
-    let in_series = random.chance(30);
+    let in_series = random.chance(30) || file.positions == 0;
     let fields: &[usize] = if in_series { &SERIES_FIELDS } else { &POSITION_FIELDS };
     let field = below(random, fields.len() - 1);
     let row = if in_series {
@@ -181,7 +181,7 @@ fn counts_changed(random: &mut Random, file: &mut Damaged) -> bool {
     let Some(first) = file.first_of_trailer() else { return false };
     let beside = |count: usize, random: &mut Random| match random.between(0, 9) {
         0..=3 => count,
-        4..=6 => count - 1,
+        4..=6 => count.saturating_sub(1),
         _ => count + 1,
     };
     let series = match random.between(0, 19) {

@@ -31,6 +31,7 @@ pub fn questions(seed: u64, position_count: Option<usize>) -> Vec<Purpose> {
     asked
 }
 
+/// With p = 0 there is no row to ask for, and the list of p entries is empty.
 fn of_accepted(random: &mut Random, p: usize) -> Vec<Purpose> {
     let mut asked = Vec::new();
     let exactly = random.chance(50);
@@ -45,15 +46,16 @@ fn of_accepted(random: &mut Random, p: usize) -> Vec<Purpose> {
         let room = random.between(1, p as i64 - 1) as usize;
         asked.push((Question::Margin { room }, "room below p"));
     }
-    let last = p as u64 - 1;
+    let end = p as u64;
     if p <= FEW_ROWS {
-        asked.extend((0..=last).map(|row| (Question::Amount { row }, "row")));
+        asked.extend((0..end).map(|row| (Question::Amount { row }, "row")));
     } else {
+        let last = end - 1;
         for row in [0, last, random.draw() % last, random.draw() % last, random.draw() % last] {
             asked.push((Question::Amount { row }, "row"));
         }
     }
-    for row in [last + 1, last + 2, u64::MAX] {
+    for row in [end, end + 1, u64::MAX] {
         asked.push((Question::Amount { row }, "no such row"));
     }
     asked

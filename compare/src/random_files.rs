@@ -38,7 +38,7 @@ fn bytes_about_the_longest(random: &mut Random) -> Vec<u8> {
 /// The counts and the distance are in order, the rows are not.
 fn bytes_before_trailer(random: &mut Random) -> Vec<u8> {
     let series = random.between(1, 3) as usize;
-    let positions = random.between(1, 5) as usize;
+    let positions = random.between(0, 5) as usize;
     let cover = random.pick(&[0, 0, 1, 24, 50]);
     let mut bytes = random_bytes(random, cover + 24 * series + 32 * positions);
     bytes.extend(trailer_for(series, positions));
@@ -57,7 +57,7 @@ fn bytes_before_counts(random: &mut Random) -> Vec<u8> {
 fn fields_about_ranges(random: &mut Random) -> Vec<u8> {
     let series: Vec<SeriesDraft> =
         (0..random.between(1, 3)).map(|_| random_series(random)).collect();
-    let positions = (0..random.between(1, 6)).map(|_| random_position(random, &series)).collect();
+    let positions = (0..random.between(0, 6)).map(|_| random_position(random, &series)).collect();
     Draft::new(series, positions).bytes()
 }
 

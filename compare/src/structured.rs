@@ -28,9 +28,12 @@ const ALL_SERIES: Shape = Shape { series: (32, 32), positions: (1, 40), ..MIDDLE
 const FULL: Shape = Shape { series: (32, 32), positions: (256, 256), ..MIDDLE };
 const FULL_ALL: Shape = Shape { series: (2, 32), positions: (200, 256), ..ALL };
 const FULL_CROWDED: Shape = Shape { series: (1, 1), positions: (256, 256), ..LOW };
+const NO_ROWS: Shape = Shape { series: (1, 32), positions: (0, 0), ..ALL };
+const NO_ROWS_ONE_SERIES: Shape = Shape { series: (1, 1), ..NO_ROWS };
+const NO_ROWS_ALL_SERIES: Shape = Shape { series: (32, 32), ..NO_ROWS };
 
 /// Large accounts are few, because the reference takes long for them.
-const SHAPES: [(i64, Named); 12] = [
+const SHAPES: [(i64, Named); 15] = [
     (3_000, ("low prices", LOW)),
     (2_400, ("middle prices", MIDDLE)),
     (1_800, ("all prices", ALL)),
@@ -43,6 +46,9 @@ const SHAPES: [(i64, Named); 12] = [
     (50, ("256 rows, 32 series", FULL)),
     (50, ("200 to 256 rows, all prices", FULL_ALL)),
     (50, ("256 rows of one series", FULL_CROWDED)),
+    (200, ("no rows", NO_ROWS)),
+    (200, ("no rows, one series", NO_ROWS_ONE_SERIES)),
+    (200, ("no rows, 32 series", NO_ROWS_ALL_SERIES)),
 ];
 
 pub fn structured_file(random: &mut Random) -> (Vec<&'static str>, Vec<u8>) {
@@ -77,14 +83,19 @@ fn cover_sheet(random: &mut Random, draft: &Draft, shape: &Shape) -> Vec<u8> {
     }
 }
 
-/// Series rows of the shape, and position rows of the account itself.
+/// Series rows of the shape, and position rows of the account itself. Where it has none they are
+/// those of another account.
 fn rows_like(random: &mut Random, draft: &Draft, shape: &Shape) -> Vec<u8> {
     let mut rows = Vec::new();
     for _ in 0..random.between(1, 3) {
         rows.extend(sample_series(random, shape).bytes());
     }
+    let mut positions = draft.positions.clone();
+    if positions.is_empty() {
+        positions = sample_account(random, &Shape { positions: (3, 3), ..*shape }).positions;
+    }
     for _ in 0..random.between(0, 3) {
-        rows.extend(random.pick(&draft.positions).bytes());
+        rows.extend(random.pick(&positions).bytes());
     }
     rows
 }

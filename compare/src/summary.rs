@@ -3,6 +3,8 @@
 use std::collections::BTreeMap;
 use std::fmt;
 
+use reference::reader::Refusal;
+
 use crate::comparison::Answer;
 use crate::files::{Family, File};
 
@@ -20,6 +22,8 @@ pub struct Summary {
     faults: [u64; 5],
     /// By number of refusal, 0 where the file was accepted.
     outcomes: [u64; 12],
+    /// Of the accepted files, those without positions.
+    without_positions: u64,
     margin_calls: Tally,
     amount_calls: Tally,
     premium_calls: u64,
@@ -38,10 +42,12 @@ impl Tally {
 }
 
 impl Summary {
-    pub fn add_file(&mut self, file: &File, refusal: Option<i64>) {
+    /// The reading gives the position count, or the refusal.
+    pub fn add_file(&mut self, file: &File, reading: Result<usize, Refusal>) {
         self.files += 1;
         self.families.add(file.family.name());
-        self.outcomes[refusal.unwrap_or(0) as usize] += 1;
+        self.outcomes[reading.map_or_else(|refusal| refusal.number as usize, |_| 0)] += 1;
+        self.without_positions += u64::from(reading == Ok(0));
         let kinds = match file.family {
             Family::Random => &mut self.random,
             Family::Structured => &mut self.structured,
@@ -84,8 +90,11 @@ impl fmt::Display for Summary {
         writeln!(out, "faults put in: {}", self.damage)?;
         let [_, one, two, three, four] = self.faults;
         writeln!(out, "faults in a file: 1: {one}; 2: {two}; 3: {three}; 4: {four}")?;
-        write!(out, "accepted: {}; refused", self.outcomes[0])?;
-        for (number, count) in self.outcomes.iter().enumerate().skip(1) {
+        let (accepted, without) = (self.outcomes[0], self.without_positions);
+        write!(out, "accepted: {accepted}, without positions: {without}; refused")?;
+        // Number 3 is given for nothing.
+        for number in [1, 2, 4, 5, 6, 7, 8, 9, 10, 11] {
+            let count = self.outcomes[number];
             write!(out, " {number}: {count}{}", if number < 11 { ";" } else { "\n" })?;
         }
         let calls = self.margin_calls.total();

@@ -4,13 +4,14 @@ use std::collections::BTreeSet;
 
 use reference::account::Account;
 use reference::lines::margin;
-use reference::reader::read_account;
+use reference::reader::{distance, read_account};
 
 use crate::changes::{Change, Changed, CHANGES};
 use crate::comparison::{compare_file, Difference};
 use crate::files::{file, Family, File, LONGEST_FILE};
 use crate::implementation::{Implementation, Reference};
 use crate::lending::Lending;
+use crate::questions::{questions, Question};
 use crate::summary::Summary;
 
 const SEED: u64 = 7;
@@ -24,9 +25,22 @@ fn files_of(family: Family, count: u64) -> impl Iterator<Item = File> {
 }
 
 /// 0 for accepted files, else the number of the refusal.
+fn outcome(file: &File) -> i64 {
+    read_account(&file.bytes).map_or_else(|refusal| refusal.number, |_| 0)
+}
+
 fn outcomes(family: Family, count: u64) -> BTreeSet<i64> {
-    let outcome = |file: File| read_account(&file.bytes).map_or_else(|r| r.number, |_| 0);
-    files_of(family, count).map(outcome).collect()
+    files_of(family, count).map(|file| outcome(&file)).collect()
+}
+
+/// Number 3 is given for nothing.
+fn every_outcome() -> BTreeSet<i64> {
+    (0..=11).filter(|number| *number != 3).collect()
+}
+
+/// Does the trailer, if there is one, say p = 0?
+fn says_no_positions(file: &File) -> bool {
+    file.bytes.len() >= 12 && file.bytes[file.bytes.len() - 10..][..2] == [0, 0]
 }
 
 fn kinds(family: Family, count: u64) -> BTreeSet<&'static str> {
@@ -55,7 +69,7 @@ fn the_families_come_in_turn() {
 #[test]
 fn random_files_reach_the_rows() {
     let count = 30_000;
-    assert_eq!(outcomes(Family::Random, count), (0..=11).collect());
+    assert_eq!(outcomes(Family::Random, count), every_outcome());
     assert_eq!(kinds(Family::Random, count).len(), 7);
     let lengths: BTreeSet<usize> = files_of(Family::Random, count).map(|f| f.bytes.len()).collect();
     for length in (0..=40).chain(65_535..=65_538) {
@@ -69,7 +83,7 @@ fn structured_files_are_accepted_and_various() {
     let read = |file: &File| read_account(&file.bytes).expect("accepted");
     let accounts: Vec<Account> = files.iter().map(read).collect();
     let some = |what: &dyn Fn(&Account) -> bool| accounts.iter().any(what);
-    assert_eq!(kinds(Family::Structured, 20_000).len(), 12);
+    assert_eq!(kinds(Family::Structured, 20_000).len(), 15);
     assert!(some(&|a| a.series.len() == 32 && a.positions.len() == 256));
     assert!(some(&|a| a.series.len() == 1 && a.positions.len() == 256));
     assert!(some(&|a| a.series.len() == 1 && a.positions.len() == 1));
@@ -82,16 +96,56 @@ fn structured_files_are_accepted_and_various() {
     }
     assert!(some(&|a| a.positions.len() < 50 && margin(a).pairs.len() > 10));
     assert!(files.iter().any(|f| f.bytes.len() == LONGEST_FILE));
-    let covered = |(f, a): &(&File, &Account)| {
-        f.bytes.len() > reference::reader::distance(a.series.len(), a.positions.len())
-    };
-    let with_cover = files.iter().zip(&accounts).filter(covered).count();
+    let with_cover = files.iter().zip(&accounts).filter(|(f, a)| has_cover(f, a)).count();
     assert!(with_cover > files.len() / 3 && with_cover < files.len());
+}
+
+fn has_cover(file: &File, account: &Account) -> bool {
+    file.bytes.len() > distance(account.series.len(), account.positions.len())
+}
+
+#[test]
+fn some_structured_files_have_no_rows() {
+    let mut shapes = BTreeSet::new();
+    for file in files_of(Family::Structured, 20_000).filter(says_no_positions) {
+        let account = read_account(&file.bytes).expect("accepted");
+        assert!(account.positions.is_empty());
+        shapes.insert((account.series.len(), has_cover(&file, &account)));
+    }
+    let every_shape = (1..=32).flat_map(|series| [(series, false), (series, true)]);
+    assert_eq!(shapes, every_shape.collect());
+}
+
+#[test]
+fn random_and_damaged_files_without_rows_are_accepted_or_refused() {
+    for (family, count) in [(Family::Random, 30_000), (Family::Damaged, 20_000)] {
+        let files = files_of(family, count).filter(says_no_positions);
+        let found: BTreeSet<i64> = files.map(|file| outcome(&file)).collect();
+        assert!(found.is_superset(&[0, 2, 4, 5, 6].into()), "{family:?}: {found:?}");
+        assert!(found.is_subset(&[0, 1, 2, 4, 5, 6].into()), "{family:?}: {found:?}");
+    }
+}
+
+#[test]
+fn an_account_without_rows_is_asked_about() {
+    for seed in 0..100 {
+        let asked = questions(seed, Some(0));
+        let count = |question, purpose| asked.iter().filter(|a| **a == (question, purpose)).count();
+        assert_eq!(asked.len(), 7);
+        assert_eq!(count(Question::Margin { room: 0 }, "no room"), 1);
+        assert_eq!(count(Question::Margin { room: 0 }, "room p"), 1);
+        let above = (1..=9).map(|room| count(Question::Margin { room }, "room above p"));
+        assert_eq!(above.sum::<usize>(), 1);
+        for row in [0, 1, u64::MAX] {
+            assert_eq!(count(Question::Amount { row }, "no such row"), 1);
+        }
+        assert_eq!(count(Question::Premiums, "premiums"), 1);
+    }
 }
 
 #[test]
 fn damaged_files_are_accepted_or_refused_with_every_number() {
-    assert_eq!(outcomes(Family::Damaged, 20_000), (0..=11).collect());
+    assert_eq!(outcomes(Family::Damaged, 20_000), every_outcome());
     assert_eq!(kinds(Family::Damaged, 20_000).len(), 10);
     let counts: BTreeSet<usize> = files_of(Family::Damaged, 500).map(|f| f.kinds.len()).collect();
     assert_eq!(counts, (1..=4).collect());

@@ -52,7 +52,8 @@ pub fn distance(series_count: usize, position_count: usize) -> usize {
     TRAILER_BYTES + SERIES_BYTES * series_count + POSITION_BYTES * position_count
 }
 
-/// The counts s and p, or the number of the refusal.
+/// The counts s and p, or the number of the refusal. An account may have no
+/// positions; number 3, which was given for that, is given for nothing.
 fn read_trailer(bytes: &[u8]) -> Result<(usize, usize), i64> {
     if bytes.len() < TRAILER_BYTES || bytes.len() > LONGEST_FILE {
         return Err(1);
@@ -65,9 +66,6 @@ fn read_trailer(bytes: &[u8]) -> Result<(usize, usize), i64> {
 
     if s == 0 || s > 32 || p > 256 || last_four != [0, 0, 0, 0] {
         return Err(2);
-    }
-    if p == 0 {
-        return Err(3);
     }
     if stated_distance != distance(s, p) || stated_distance > bytes.len() {
         return Err(4);

@@ -18,7 +18,7 @@ fn example_account() -> Account {
 fn random_small_accounts() {
     let shape = Shape {
         series: (1, 2),
-        positions: (1, 6),
+        positions: (0, 6),
         pv: (2, 60),
         quantity: (1, 5),
         m: (1, 3),
@@ -81,6 +81,23 @@ fn no_pair_at_all_is_found() {
 #[test]
 fn lost_contracts_are_found() {
     assert!(found(|claim| claim.margin.left.clear()).starts_with("contracts"));
+}
+
+/// Nothing is owed on any path of any series.
+#[test]
+fn an_account_without_positions_is_covered() {
+    let mut last = SeriesDraft::checked(CALL);
+    last.pv = 1;
+    let draft = Draft::new(vec![SeriesDraft::checked(CALL), last], vec![]);
+    let account = read_account(&draft.bytes()).expect("accepted");
+    let mut claim = reference_claim(&account);
+    assert!(claim.units.is_empty());
+    let one_series = Account { series: account.series[..1].to_vec(), positions: vec![] };
+    let steps_of_one = check(&one_series, &claim, 4).expect("no violation");
+    let steps = check(&account, &claim, 4).expect("no violation");
+    assert!(steps > steps_of_one && steps_of_one > 0);
+    claim.margin.total = -1;
+    assert!(check(&account, &claim, 4).unwrap_err().starts_with("the cover"));
 }
 
 #[test]

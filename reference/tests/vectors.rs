@@ -3,7 +3,7 @@
 use reference::account::{Account, Barrier, OptionType, Position, Side};
 use reference::lines::margin;
 use reference::output::margin_output;
-use reference::reader::{read_account, Refusal};
+use reference::reader::{distance, read_account, Refusal};
 use reference::vectors::{all_cases, stdin_bytes, stdout_text, Expect};
 
 fn accepted_accounts() -> Vec<Account> {
@@ -28,12 +28,38 @@ fn every_case_is_accepted_or_refused_as_it_was_made() {
 #[test]
 fn every_refusal() {
     let cases = all_cases();
-    assert!(cases.len() >= 400);
-    for number in 1..=11 {
+    assert_eq!(cases.len(), 1_400);
+    for number in [1, 2, 4, 5, 6, 7, 8, 9, 10, 11] {
         assert!(cases.iter().any(|c| c.expect == Expect::Refused(number, 0)), "{number} at 0");
         let later =
             |expect| matches!(expect, Expect::Refused(found, row) if found == number && row > 0);
         assert!(number < 5 || cases.iter().any(|c| later(c.expect)), "{number} later");
+    }
+}
+
+/// Number 3 is given for nothing.
+#[test]
+fn no_refusal_3() {
+    for case in all_cases() {
+        let number = read_account(&case.bytes).map_or_else(|refusal| refusal.number, |_| 0);
+        assert_ne!(number, 3, "{}: {}", case.group, case.name);
+    }
+}
+
+/// Accepted, with 1 and with 32 series, with and without a cover sheet.
+#[test]
+fn accounts_without_positions() {
+    let mut found = Vec::new();
+    for case in all_cases() {
+        let Ok(account) = read_account(&case.bytes) else { continue };
+        if account.positions.is_empty() {
+            assert_eq!(margin_output(&case.bytes), "premium 0\ntotal 0\n", "{}", case.name);
+            let series = account.series.len();
+            found.push((series, case.bytes.len() > distance(series, 0)));
+        }
+    }
+    for shape in [(1, false), (1, true), (32, false), (32, true)] {
+        assert!(found.contains(&shape), "{shape:?}");
     }
 }
 

@@ -55,9 +55,6 @@ pub fn trailer_fault(file: &[u8]) -> Fault
     if wrong_trailer(file) {
         return Fault::Found(Refusal::Trailer);
     }
-    if position_count(file) == 0 {
-        return Fault::Found(Refusal::NoPositions);
-    }
     if wrong_distance(file) {
         return Fault::Found(Refusal::Distance);
     }

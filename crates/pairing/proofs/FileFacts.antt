@@ -2,14 +2,14 @@
 -- Assumes nothing.
 use Prim.Native.Nat.{ℕ, _≤_, _<_}
 use mathlib.Core.List.{List}
-use mathlib.Core.Path.{_≡_, sym, subst}
+use mathlib.Core.Path.{_≡_}
 use mathlib.Core.Bool.{true}
 use native.Mathlib.Omega.{arith}
 use Rattle.account.proofs.KnownRows.{position-within, row-series}
 use Rattle.account.specs.Known.{Known}
 use Rattle.rules.proofs.Bounds.{unit-most}
 use Rattle.rules.proofs.MayPair.{may-pairable}
-use Rattle.rules.specs.File.{accountOf, layout, positionRow, seriesOfRow, seriesRow}
+use Rattle.rules.specs.File.{accountOf, positionRow, seriesOfRow, seriesRow}
 use Rattle.rules.specs.Limits.{PositionWithin}
 use Rattle.rules.specs.Lines.{spreadUnit}
 use Rattle.rules.specs.Pairs.{mayOf}
@@ -21,10 +21,6 @@ module _ (b : List ℕ) (l : Layout) (ok : Known b l) where
   pub row-within : (i : ℕ) → i < l .positions
       → PositionWithin (l .series) (seriesRow b l (positionRow b l i .series)) (positionRow b l i)
   row-within = position-within b l ok
-
-  pub some-rows : 1 ≤ l .positions
-  unfolding layout
-  some-rows = subst (λ (x : Layout). 1 ≤ x .positions) (sym (ok .layout-is)) (ok .within .trailer .positions-least)
 
   pub row-range : (i : ℕ) (row : PositionRow) → i < l .positions → row ≡ positionRow b l i
       → PositionWithin (l .series) (seriesRow b l (row .series)) row

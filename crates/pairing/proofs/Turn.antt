@@ -2,18 +2,18 @@
 -- Assumes nothing.
 use Prim.Native.Nat.{ℕ, _+_, _*_, _-_, _/_, _%_, _≤_, _<_}
 use mathlib.Core.List.{List, [], _∷_, _++_}
-use mathlib.Core.Path.{_≡_, refl, sym, ap, ap₂, _∙_}
+use mathlib.Core.Path.{_≡_, refl, sym, ap, ap₂, subst, _∙_}
 use native.Mathlib.Nat.{add-sub-of-le}
 use native.Mathlib.Omega.{arith}
 use lib.ListN.{length, length-append}
 use Rattle.account.specs.Known.{Known}
 use Rattle.lanes.proofs.FileFacts.{Ranged, ranged}
-use Rattle.lanes.specs.Keys.{none}
+use Rattle.lanes.specs.Keys.{none, tableSize}
 use Rattle.numbers.specs.Lists.{nth}
 use Rattle.pairing.proofs.FileFacts.{row-within}
 use Rattle.pairing.proofs.LeastLaws.{least-told, nothing, picked, standings-fall}
 use Rattle.pairing.specs.Standings.{BestRank, Lines, Standings}
-use Rattle.pairing.specs.Pairing.{PairAsked, PairWritten, Paired, PairedBy, pairOf}
+use Rattle.pairing.specs.Pairing.{PairAsked, PairWritten, Paired, PairedBy, PairedUp, pairOf}
 use Rattle.pairing.specs.declared.Tally.{Tally}
 use Rattle.lines.proofs.LinesHeld.{lines-more, lines-same}
 use Rattle.lines.specs.LineNumbers.{linesFrom}
@@ -44,6 +44,17 @@ module _ (a : Account) where
         total-most = omega arith;
         left-is = same;
         lines-are = refl;
+      }
+
+  -- An account without rows has no pairs.
+  pub no-rows : (table left numbers : List ℕ) → a .positions ≡ 0 → tableSize ≤ length table → PairedUp a table left numbers (tally 0 0)
+  no-rows table left numbers empty room =
+      record {
+        paired =
+            subst (λ (n : ℕ). PairedBy n a left numbers (tally 0 0)) (sym empty)
+            (began left numbers (λ r l. absurd (omega (arith, empty))));
+        units = λ r l. absurd (omega (arith, empty));
+        room = room;
       }
 
   module _ (k total : ℕ) (left numbers : List ℕ) (f : PairedBy k a left numbers (tally k total)) where

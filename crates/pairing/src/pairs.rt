@@ -43,6 +43,7 @@ fn pair_rounds(
 // All pairs of an accepted file: left holds the contracts of each row and is lowered, the pairs are written as lines
 // from line 0 on, and their amounts added up. The table is filled on the way, and has the unit margins for the lines of
 // rows left. It is made with the lists that are written anew after it, so that a call sets no further ones to 0.
+// Without rows there is nothing to pair, and a tree has at least one leaf.
 pub fn pair_up(
     file: &[u8],
     l: Layout,
@@ -53,6 +54,9 @@ pub fn pair_up(
     requires { ⌜ PairingAsked (now file) l (now table) (now left) (now numbers) ⌝ }
     ensures { λ t. ⌜ PairedUp (accountOf (now (file .entry)) l) (now (table .exit)) (now (left .exit)) (now (numbers .exit)) t ⌝ }
 {
+    if l.positions == 0 {
+        return Tally { count: 0, total: 0 };
+    }
     let mut tree = [0u64; TREE_SIZE];
     let mut places = [0u64; PLACES_SIZE];
     fill_rows(file, l, table, numbers, &mut tree, &mut places);

@@ -10,7 +10,6 @@ pub fn refusal_number(why: Refusal) -> u32
     match why {
         Refusal::FileSize => 1,
         Refusal::Trailer => 2,
-        Refusal::NoPositions => 3,
         Refusal::Distance => 4,
         Refusal::SeriesRange => 5,
         Refusal::SeriesType => 6,

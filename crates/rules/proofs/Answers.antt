@@ -27,23 +27,22 @@ use Rattle.rules.specs.declared.Layout.{Layout}
 use Rattle.rules.specs.declared.Line.{Line}
 use Rattle.rules.specs.declared.MarginAnswer.the-variants.{NoTotal, Total}
 use Rattle.rules.specs.declared.Refusal.{Refusal}
-use Rattle.rules.specs.declared.Refusal.the-variants.{FileSize, Trailer, NoPositions, Distance, SeriesRange, SeriesType, PositionTerms, PositionRange, LimiterPrice, BarrierPrice, BarrierSide, ListTooShort, RowAskedFor}
+use Rattle.rules.specs.declared.Refusal.the-variants.{FileSize, Trailer, Distance, SeriesRange, SeriesType, PositionTerms, PositionRange, LimiterPrice, BarrierPrice, BarrierSide, ListTooShort, RowAskedFor}
 
--- Every refusal's number is 1 to 13, so that 0 and amounts are never taken for one.
-pub number-range : (w : Refusal) → (1 ≤ number w) × (number w ≤ 13)
-number-range FileSize = omega arith
-number-range Trailer = omega arith
-number-range NoPositions = omega arith
-number-range Distance = omega arith
-number-range SeriesRange = omega arith
-number-range SeriesType = omega arith
-number-range PositionTerms = omega arith
-number-range PositionRange = omega arith
-number-range LimiterPrice = omega arith
-number-range BarrierPrice = omega arith
-number-range BarrierSide = omega arith
-number-range ListTooShort = omega arith
-number-range RowAskedFor = omega arith
+-- Every refusal's number is 1 to 13, so that 0 and amounts are never taken for one; and none is 3, which is withdrawn.
+pub number-range : (w : Refusal) → (1 ≤ number w) × (number w ≤ 13) × (number w ≡ 3 → ⊥)
+number-range FileSize = (omega arith, omega arith, λ (q : number FileSize ≡ 3). omega arith)
+number-range Trailer = (omega arith, omega arith, λ (q : number Trailer ≡ 3). omega arith)
+number-range Distance = (omega arith, omega arith, λ (q : number Distance ≡ 3). omega arith)
+number-range SeriesRange = (omega arith, omega arith, λ (q : number SeriesRange ≡ 3). omega arith)
+number-range SeriesType = (omega arith, omega arith, λ (q : number SeriesType ≡ 3). omega arith)
+number-range PositionTerms = (omega arith, omega arith, λ (q : number PositionTerms ≡ 3). omega arith)
+number-range PositionRange = (omega arith, omega arith, λ (q : number PositionRange ≡ 3). omega arith)
+number-range LimiterPrice = (omega arith, omega arith, λ (q : number LimiterPrice ≡ 3). omega arith)
+number-range BarrierPrice = (omega arith, omega arith, λ (q : number BarrierPrice ≡ 3). omega arith)
+number-range BarrierSide = (omega arith, omega arith, λ (q : number BarrierSide ≡ 3). omega arith)
+number-range ListTooShort = (omega arith, omega arith, λ (q : number ListTooShort ≡ 3). omega arith)
+number-range RowAskedFor = (omega arith, omega arith, λ (q : number RowAskedFor ≡ 3). omega arith)
 
 module _ (b : List ℕ) where
   -- The answer, and the lines given, by the reading.

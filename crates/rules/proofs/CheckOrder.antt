@@ -5,7 +5,7 @@ use Prim.Native.Nat.{ℕ, _/_, _%_}
 use mathlib.Core.List.{List, [], _∷_, _++_}
 use mathlib.Core.Path.{_≡_, refl}
 use Rattle.rules.specs.File.{layout, positionRow, seriesRow, span}
-use Rattle.rules.specs.Lines.{leftLines, lines, linesGiven, listAfter, marginAnswer, pairLines}
+use Rattle.rules.specs.Lines.{leftLines, lines, linesGiven, listAfter, marginAnswer, pairLines, premiums, sumOver, sumTo, total}
 use Rattle.rules.specs.OnePosition.{amountAnswer, positionAmount, unitMargin}
 use Rattle.rules.specs.Pairs.{along, leftAfter, madeAfter, mayOf, through}
 use Rattle.rules.specs.Refusals.{fileRead, matchedFault, meaning, positionRowFault, positionRows, refuse, refused, rows, seriesRowFault, seriesRows, trailerFault}
@@ -14,7 +14,7 @@ use Rattle.rules.specs.declared.AmountAnswer.the-variants.{Amount, NoAmo
 use Rattle.rules.specs.declared.Fault.the-variants.{Clean, Found}
 use Rattle.rules.specs.declared.FileRead.the-variants.{Accepted}
 use Rattle.rules.specs.declared.Line.{Line}
-use Rattle.rules.specs.declared.MarginAnswer.the-variants.{NoTotal}
+use Rattle.rules.specs.declared.MarginAnswer.the-variants.{NoTotal, Total}
 use Rattle.rules.specs.declared.PositionRow.{PositionRow}
 use Rattle.rules.specs.declared.Refusal.the-variants.{Trailer, SeriesRange, SeriesType, PositionTerms, PositionRange, LimiterPrice, BarrierPrice, BarrierSide, ListTooShort, RowAskedFor}
 use Rattle.rules.specs.declared.SeriesRow.{SeriesRow}
@@ -111,11 +111,15 @@ file pv spare positions = seriesBytes 3000 0 ++ seriesBytes pv spare ++ position
 pub file-order :
     -- 1 before 2: 11 zero bytes
     (meaning (0 ∷ 0 ∷ 0 ∷ 0 ∷ 0 ∷ 0 ∷ 0 ∷ 0 ∷ 0 ∷ 0 ∷ 0 ∷ []) ≡ refused 1 0)
-    -- 2 before 3: s and p both 0; p 0 and a spare byte
+    -- 2 where p is 0 too: s 0; a spare byte, before 4
     × (meaning (trailerBytes 0 0 12 0) ≡ refused 2 0)
     × (meaning (trailerBytes 1 0 36 16_777_216) ≡ refused 2 0)
-    -- 3 before 4: p 0 and a distance longer than the file
-    × (meaning (trailerBytes 1 0 36 0) ≡ refused 3 0)
+    -- 4 where p is 0 too: the right distance, longer than the file; a wrong one
+    × (meaning (trailerBytes 1 0 36 0) ≡ refused 4 0)
+    × (meaning (seriesBytes 3000 0 ++ trailerBytes 1 0 12 0) ≡ refused 4 0)
+    -- 5 and 6 where p is 0 too
+    × (meaning (seriesBytes 3000 0 ++ seriesBytes 0 0 ++ trailerBytes 2 0 (span 2 0) 0) ≡ refused 5 1)
+    × (meaning (seriesBytes 3000 1 ++ seriesBytes 3000 0 ++ trailerBytes 2 0 (span 2 0) 0) ≡ refused 6 0)
     -- 4: the right distance, longer than the file; a wrong one
     × (meaning (trailerBytes 1 1 68 0) ≡ refused 4 0)
     × (meaning (trailerBytes 1 1 12 0) ≡ refused 4 0)
@@ -130,8 +134,10 @@ pub file-order :
     × (meaning (file 3000 0 (positionBytes 0 0 1 0 ++ positionBytes 0 1 1 0)) ≡ refused 7 1)
     -- Accepted, after a cover sheet of three bytes that is not read
     × (fileRead (255 ∷ 1 ∷ 2 ∷ file 3000 0 (positionBytes 1 0 1 3001 ++ positionBytes 2 0 1 2999)) ≡ Accepted (record { series = 2; positions = 2; seriesStart = 3; positionsStart = 51; width = 32 }))
+    -- The same without positions
+    × (fileRead (255 ∷ 1 ∷ 2 ∷ seriesBytes 3000 0 ++ trailerBytes 1 0 (span 1 0) 0) ≡ Accepted (record { series = 1; positions = 0; seriesStart = 3; positionsStart = 27; width = 32 }))
 unfolding meaning fileRead layout seriesRow positionRow seriesRows positionRows rows trailerFault seriesRowFault positionRowFault matchedFault refuse
-file-order = (refl, refl, refl, refl, refl, refl, refl, refl, refl, refl, refl, refl)
+file-order = (refl, refl, refl, refl, refl, refl, refl, refl, refl, refl, refl, refl, refl, refl, refl, refl)
 
 -- Two written rows within the limits, and one row by itself.
 abbrev two : List ℕ
@@ -139,6 +145,10 @@ two = file 3000 0 (positionBytes 0 0 1 0 ++ positionBytes 0 0 1 0)
 
 abbrev one : List ℕ
 one = seriesBytes 3000 0 ++ positionBytes 0 0 1 0 ++ trailerBytes 1 1 (span 1 1) 0
+
+-- A call series and no positions.
+abbrev noRows : List ℕ
+noRows = seriesBytes 3000 0 ++ trailerBytes 1 0 (span 1 0) 0
 
 abbrev entry : ℕ → Line
 entry n = record { kind = n; secondNumber = n; thirdNumber = n; fourthNumber = n; fifthNumber = n }
@@ -154,12 +164,17 @@ pub later-refusals :
     -- 13: "row p or above"; row 1 has 500 ticks × 5 centavos
     × (amountAnswer two 2 ≡ NoAmount RowAskedFor 0)
     × (amountAnswer two 1 ≡ Amount 2_500)
-unfolding marginAnswer amountAnswer listAfter linesGiven fileRead layout seriesRow positionRow seriesRows positionRows rows trailerFault seriesRowFault positionRowFault matchedFault refuse positionAmount unitMargin
-later-refusals = (refl, refl, refl, refl, refl, refl)
+    -- Without positions every list is long enough, and no row is there
+    × (marginAnswer noRows 0 ≡ Total 0 0)
+    × (amountAnswer noRows 0 ≡ NoAmount RowAskedFor 0)
+unfolding marginAnswer amountAnswer listAfter linesGiven lines leftLines pairLines leftAfter madeAfter premiums total sumTo sumOver fileRead layout seriesRow positionRow seriesRows positionRows rows trailerFault seriesRowFault positionRowFault matchedFault refuse positionAmount unitMargin
+later-refusals = (refl, refl, refl, refl, refl, refl, refl, refl)
 
--- "entries after it stay": a list of two entries for one line.
+-- "entries after it stay": a list of two entries for one line, and a list without and with an entry for none.
 pub entries-stay :
-    listAfter one (entry 7 ∷ entry 8 ∷ [])
-    ≡ record { kind = 2; secondNumber = 0; thirdNumber = 1; fourthNumber = 2_500; fifthNumber = 0 } ∷ entry 8 ∷ []
+    (listAfter one (entry 7 ∷ entry 8 ∷ [])
+    ≡ record { kind = 2; secondNumber = 0; thirdNumber = 1; fourthNumber = 2_500; fifthNumber = 0 } ∷ entry 8 ∷ [])
+    × (listAfter noRows [] ≡ [])
+    × (listAfter noRows (entry 7 ∷ []) ≡ entry 7 ∷ [])
 unfolding marginAnswer listAfter linesGiven lines leftLines pairLines leftAfter madeAfter through along mayOf unitSpread fileRead layout seriesRow positionRow seriesRows positionRows rows trailerFault seriesRowFault positionRowFault matchedFault refuse unitMargin
-entries-stay = refl
+entries-stay = (refl, refl, refl)

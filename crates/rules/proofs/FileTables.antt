@@ -1,5 +1,5 @@
 -- Computed values of the file, its refusals and the answers: the third part of the table of `RuleValues`.
-use Prim.Native.Nat.{ℕ}
+use Prim.Native.Nat.{ℕ, zero, suc}
 use mathlib.Core.Bool.{Bool, true, false}
 use mathlib.Core.List.{List, [], _∷_, _++_}
 use mathlib.Core.Path.{_≡_}
@@ -8,10 +8,11 @@ use Rattle.rules.proofs.CheckOrder.{bytes4, trailerBytes}
 use Rattle.rules.proofs.CheckedValues.{row, series}
 use Rattle.rules.specs.File.{barrierOf, flagsOf, limiterOf, optionOf, positionRowFrom, positionWidth, seriesRowFrom, seriesWidth, sideOf, span, trailerWidth, u16At, u24At, u32At, u8At}
 use Rattle.rules.specs.Limits.{mostBytes, mostPositions, mostSeries}
-use Rattle.rules.specs.Lines.{marginAnswer, total}
+use Rattle.rules.specs.Lines.{marginAnswer, premiumAnswer, total}
 use Rattle.rules.specs.OnePosition.{amountAnswer, signedAnswer}
 use Rattle.rules.specs.Output.{marginText, premiumsFor}
 use Rattle.rules.specs.Refusals.{meaning, refused, rows}
+use Rattle.rules.specs.declared.AmountAnswer.the-variants.{Amount}
 use Rattle.rules.specs.declared.Barrier.the-variants.{NoBarrier, UpIn, DownIn, UpOut, DownOut}
 use Rattle.rules.specs.declared.Flags.{Flags}
 use Rattle.rules.specs.declared.FileRead.the-variants.{Refused}
@@ -123,7 +124,6 @@ Numbers =
     × (meaning (trailerBytes 33 1 836 0) ≡ refused 2 0)
     × (meaning (trailerBytes 32 257 (span 32 257) 0) ≡ refused 2 0)
     × (meaning (trailerBytes 32 256 (span 32 256) 0) ≡ refused 4 0)
-    × (meaning (typedBytes 3000 0 ++ trailerBytes 1 0 (span 1 0) 0) ≡ refused 3 0)
     × (meaning (typedBytes 3000 0 ++ trailerBytes 1 1 (span 1 1) 0) ≡ refused 4 0)
     × (meaning (typedBytes 3000 0 ++ typedBytes 0 0 ++ rowBytes 0 1 0 4 10 3100 0 0 0 0 ++ trailerBytes 2 1 (span 2 1) 0) ≡ refused 5 1)
     × (meaning (typedBytes 3000 0 ++ typedBytes 3000 2 ++ rowBytes 0 1 0 4 10 3100 0 0 0 0 ++ trailerBytes 2 1 (span 2 1) 0) ≡ refused 6 1)
@@ -143,6 +143,14 @@ mixed =
     ++ rowBytes 1 1 0 12 3 2900 0 0 0 0
     ++ rowBytes 0 0 0 4 5 3250 0 0 0 11
     ++ trailerBytes 2 4 (span 2 4) 0
+
+-- n call series, and an account of 32 series and no positions.
+abbrev pub callSeries : ℕ → List ℕ
+callSeries zero = []
+callSeries (suc n) = typedBytes 3000 0 ++ callSeries n
+
+abbrev pub noPositions : List ℕ
+noPositions = callSeries 32 ++ trailerBytes 32 0 (span 32 0) 0
 
 -- What the operations answer, as numbers and as text.
 abbrev pub Answers : Type 0
@@ -168,3 +176,9 @@ Answers =
     × (signedAnswer (amountAnswer mixed 3) ≡ pos 275)
     × (signedAnswer (amountAnswer mixed 4) ≡ negℤ (pos 13))
     × (signedAnswer (amountAnswer (twoRows (rowBytes 0 1 0 4 10 3100 0 0 0 1)) 0) ≡ negℤ (pos 8))
+    -- Without positions: premium 0, total 0
+    × (marginText noPositions
+    ≡
+    (112 ∷ 114 ∷ 101 ∷ 109 ∷ 105 ∷ 117 ∷ 109 ∷ 32 ∷ 48 ∷ 10 ∷ []) ++ (116 ∷ 111 ∷ 116 ∷ 97 ∷ 108 ∷ 32 ∷ 48 ∷ 10 ∷ []))
+    × (premiumAnswer noPositions ≡ Amount 0)
+    × (signedAnswer (amountAnswer noPositions 0) ≡ negℤ (pos 13))

@@ -43,3 +43,4 @@ pub mod Bounds
 pub mod Demand3
 -- What the operations answer.
 pub mod Answers
+pub mod NoPositions

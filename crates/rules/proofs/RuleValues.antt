@@ -5,7 +5,7 @@
 use mathlib.Core.Path.{refl}
 use native.Mathlib.Omega.{arith}
 use Rattle.rules.specs.File.{layout, positionRow, seriesRow}
-use Rattle.rules.specs.Lines.{leftLines, lines, linesGiven, marginAnswer, pairLines, premiums, sumOver, sumTo, total}
+use Rattle.rules.specs.Lines.{leftLines, lines, linesGiven, marginAnswer, pairLines, premiumAnswer, premiums, sumOver, sumTo, total}
 use Rattle.rules.specs.OnePosition.{amountAnswer, positionAmount, unitMargin}
 use Rattle.rules.specs.Output.{decimalIn, leftText, linesText, marginText, pairText, refusedText, totalsText}
 use Rattle.rules.specs.Pairs.{along, gapOf, leftAfter, madeAfter, mayOf, through}
@@ -21,7 +21,7 @@ pub rule-values :
     × SameRowSpreads × PlainSpreads × CoveringOutSpreads × OtherOutSpreads × Pairing
     × Fields × FlagBits × Sizes × Numbers × Answers
     × Payments × ThreePrices
-unfolding unitMargin unitSpread marginText linesText pairText leftText totalsText refusedText decimalIn marginAnswer linesGiven lines leftLines pairLines leftAfter madeAfter through along mayOf gapOf premiums total sumTo sumOver meaning fileRead layout seriesRow positionRow seriesRows positionRows rows trailerFault seriesRowFault positionRowFault matchedFault refuse amountAnswer positionAmount payment
+unfolding unitMargin unitSpread marginText linesText pairText leftText totalsText refusedText decimalIn marginAnswer linesGiven lines leftLines pairLines leftAfter madeAfter through along mayOf gapOf premiums total sumTo sumOver meaning fileRead layout seriesRow positionRow seriesRows positionRows rows trailerFault seriesRowFault positionRowFault matchedFault refuse amountAnswer positionAmount premiumAnswer payment
 rule-values = (
   (refl, refl, refl, refl, refl, refl, refl, refl),
   (refl, refl, refl, refl, refl, refl, refl, refl, refl, refl, refl, refl, refl, refl),
@@ -34,8 +34,8 @@ rule-values = (
   (refl, refl, refl, refl, refl, refl, refl, refl, refl, refl, refl, refl, refl, refl, refl),
   (refl, refl, refl, refl, refl, refl, refl, refl, refl),
   (refl, refl, refl, refl, refl, refl),
-  (refl, refl, refl, refl, refl, refl, refl, refl, refl, refl, refl, refl, refl),
-  (refl, refl, refl, refl, refl, refl, refl, refl, refl),
+  (refl, refl, refl, refl, refl, refl, refl, refl, refl, refl, refl, refl),
+  (refl, refl, refl, refl, refl, refl, refl, refl, refl, refl, refl, refl),
   (refl, refl, refl, refl, refl, refl, refl, refl, refl, refl, refl, refl, refl, refl, refl),
   omega arith,
 )

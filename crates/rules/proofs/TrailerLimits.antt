@@ -6,7 +6,7 @@ use mathlib.Core.Bool.{not}
 use mathlib.Core.List.{List}
 use mathlib.Core.Path.{_≡_, refl, ap}
 use native.Mathlib.Omega.{arith}
-use borrow.Author.Tests.{eq-eqb, eqb-false, eqb-true, le-ltb, ltb-false, ne-eqb, not-false}
+use borrow.Author.Tests.{eq-eqb, eqb-true, le-ltb, ltb-false, not-false}
 use lib.Dec.{eqb, ltb}
 use lib.ListN.{length}
 use Rattle.rules.specs.File.{distance, layout, positionCount, positionWidth, seriesCount, seriesWidth, span, trailerSpare, trailerWidth}
@@ -25,14 +25,12 @@ module _ (b : List ℕ) where
       let size = inside trailerWidth mostBytes (length b) (passes .0) in
       let counts = none-of-three (outside 1 mostSeries (seriesCount b)) (ltb mostPositions (positionCount b)) (nonzero (trailerSpare b)) (passes .1 .0) in
       let series = inside 1 mostSeries (seriesCount b) (counts .0) in
-      let some = eqb-false (positionCount b) 0 (passes .1 .1 .0) in
-      let far = neither (not (eqb (distance b) (span (seriesCount b) (positionCount b)))) (ltb (length b) (distance b)) (passes .1 .1 .1 .0) in
+      let far = neither (not (eqb (distance b) (span (seriesCount b) (positionCount b)))) (ltb (length b) (distance b)) (passes .1 .1 .0) in
       record {
         size-least = size .0;
         size-most = size .1;
         series-least = series .0;
         series-most = series .1;
-        positions-least = omega arith;
         positions-most = ltb-false mostPositions (positionCount b) (counts .1);
         distance-is = eqb-true (distance b) (span (seriesCount b) (positionCount b)) (not-false (eqb (distance b) (span (seriesCount b) (positionCount b))) (far .0));
         distance-most = ltb-false (length b) (distance b) (far .1);
@@ -50,13 +48,10 @@ module _ (b : List ℕ) where
               (le-ltb mostPositions (positionCount b) (h .positions-most))
               (zero-is (trailerSpare b) (h .spare-zero))),
           (
-            (ne-eqb (positionCount b) 0 (λ z. let some = h .positions-least in omega arith)),
-            (
-              (both-fail (not (eqb (distance b) (span (seriesCount b) (positionCount b)))) (ltb (length b) (distance b))
-                  (ap not (eq-eqb (distance b) (span (seriesCount b) (positionCount b)) (h .distance-is)))
-                  (le-ltb (length b) (distance b) (h .distance-most))),
-              tt,
-            ),
+            (both-fail (not (eqb (distance b) (span (seriesCount b) (positionCount b)))) (ltb (length b) (distance b))
+                (ap not (eq-eqb (distance b) (span (seriesCount b) (positionCount b)) (h .distance-is)))
+                (le-ltb (length b) (distance b) (h .distance-most))),
+            tt,
           ),
         ),
       )

@@ -9,8 +9,8 @@ use Rattle.rules.specs.declared.Layout.{Layout}
 use Rattle.rules.specs.declared.PositionRow.{PositionRow}
 use Rattle.rules.specs.declared.SeriesRow.{SeriesRow}
 
--- "At most 65,536 bytes"; "series count s, u16, 1 to 32; position count p, u16, 1 to 256": the most bytes, series and
--- positions of a file, by the names that the tests and the contracts use.
+-- "At most 65,536 bytes"; "series count s, u16, 1 to 32; position count p, u16, 1 to 256", and by document 02, request 1,
+-- p may be 0: the most bytes, series and positions of a file, by the names that the tests and the contracts use.
 abbrev pub mostBytes : ℕ
 mostBytes = 65_536
 
@@ -72,10 +72,10 @@ pub record TrailerWithin (b : List ℕ) : Type 0 where
   -- "At most 65,536 bytes", and the trailer's own 12
   pub size-least : trailerWidth ≤ length b
   pub size-most : length b ≤ mostBytes
-  -- "series count s, u16, 1 to 32; position count p, u16, 1 to 256"
+  -- "series count s, u16, 1 to 32; position count p, u16, 1 to 256"; document 02, request 1: "A file with p = 0 shall be
+  -- accepted when the rest is in order."
   pub series-least : 1 ≤ seriesCount b
   pub series-most : seriesCount b ≤ mostSeries
-  pub positions-least : 1 ≤ positionCount b
   pub positions-most : positionCount b ≤ mostPositions
   -- "distance, u32, from the file's end back to the first series row, equal to 12 + 24 × s + 32 × p; four zero bytes"
   pub distance-is : distance b ≡ span (seriesCount b) (positionCount b)

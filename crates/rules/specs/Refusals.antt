@@ -17,15 +17,15 @@ use Rattle.rules.specs.declared.PositionRead.{PositionRead}
 use Rattle.rules.specs.declared.PositionRead.the-variants.{Read, Unreadable}
 use Rattle.rules.specs.declared.PositionRow.{PositionRow}
 use Rattle.rules.specs.declared.Refusal.{Refusal}
-use Rattle.rules.specs.declared.Refusal.the-variants.{FileSize, Trailer, NoPositions, Distance, SeriesRange, SeriesType, PositionTerms, PositionRange, LimiterPrice, BarrierPrice, BarrierSide, ListTooShort, RowAskedFor}
+use Rattle.rules.specs.declared.Refusal.the-variants.{FileSize, Trailer, Distance, SeriesRange, SeriesType, PositionTerms, PositionRange, LimiterPrice, BarrierPrice, BarrierSide, ListTooShort, RowAskedFor}
 use Rattle.rules.specs.declared.SeriesRow.{SeriesRow}
 
 -- The table's column "Number". Refusals 1 to 11 are a file's and tested here; 12 is tested in `Lines.marginForList`, for
--- the caller's list, and 13 in `OnePosition.amountForRow`, for the row asked for, each after the file.
+-- the caller's list, and 13 in `OnePosition.amountForRow`, for the row asked for, each after the file. Document 02, request
+-- 1: "Refusal 3 is withdrawn." Its number is given to nothing else.
 abbrev pub number : Refusal → ℕ
 number FileSize = 1
 number Trailer = 2
-number NoPositions = 3
 number Distance = 4
 number SeriesRange = 5
 number SeriesType = 6
@@ -52,10 +52,6 @@ wrongSize b = outside trailerWidth mostBytes (length b)
 -- 2: "s not 1 to 32, p above 256, or one of the last four bytes not zero"
 abbrev pub wrongTrailer : List ℕ → Bool
 wrongTrailer b = outside 1 mostSeries (seriesCount b) || ltb mostPositions (positionCount b) || nonzero (trailerSpare b)
-
--- 3: "p is 0"
-abbrev pub noPositions : List ℕ → Bool
-noPositions b = eqb (positionCount b) 0
 
 -- 4: "distance not as above, or longer than the file"
 abbrev pub wrongDistance : List ℕ → Bool
@@ -136,12 +132,12 @@ abbrev pub firstFault : List Check → Fault
 firstFault [] = Clean
 firstFault ((test, w) ∷ later) = refuse test w (firstFault later)
 
--- The trailer's rows of the table, 1 to 4.
+-- The trailer's rows of the table, 1, 2 and 4. Document 02, request 1: "A file with p = 0 shall be accepted when the rest is
+-- in order", so that no check asks whether p is 0.
 abbrev pub trailerChecks : List ℕ → List Check
 trailerChecks b =
     (wrongSize b, FileSize)
     ∷ (wrongTrailer b, Trailer)
-    ∷ (noPositions b, NoPositions)
     ∷ (wrongDistance b, Distance)
     ∷ []
 

@@ -124,11 +124,11 @@ pub struct Layout {
     pub width: usize,
 }
 
-// Why a file or a call is turned back, in the order of document 01's table.
+// Why a file or a call is turned back, in the order of document 01's table. Its 3, for a file without positions, is withdrawn
+// (document 02, request 1).
 pub enum Refusal {
     FileSize,
     Trailer,
-    NoPositions,
     Distance,
     SeriesRange,
     SeriesType,

@@ -22,6 +22,8 @@ const SMALL: Shape = Shape {
 const WIDE: Shape = Shape { pv: (1, 10_000_000), quantity: (1, 100_000), m: (1, 1_000), ..SMALL };
 /// Cover and least amount are not promised here, contracts and pairs are.
 const HIGH_FB: Shape = Shape { fb_above_one: true, ..SMALL };
+/// No positions: nothing is owed on any path.
+const EMPTY: Shape = Shape { series: (1, 32), positions: (0, 0), ..WIDE };
 
 fn main() -> ExitCode {
     let arguments: Vec<String> = std::env::args().skip(1).collect();
@@ -52,9 +54,10 @@ fn try_accounts(count: u64, seed: u64) -> Result<(usize, u64), String> {
     let mut random = Random::new(seed);
     let (mut pairs, mut steps) = (0, 0);
     for tried in 0..count {
-        let shape = match tried % 8 {
-            6 => WIDE,
-            7 => HIGH_FB,
+        let shape = match tried % 16 {
+            5 => EMPTY,
+            6 | 14 => WIDE,
+            7 | 15 => HIGH_FB,
             _ => SMALL,
         };
         let bytes = sample_account(&mut random, &shape).bytes();

@@ -82,7 +82,8 @@ fn check_no_pair_left_unmade(account: &Account, margin: &Margin) -> Result<(), S
 }
 
 /// The cover and the least amount. The series choose their paths freely, so
-/// that the worst of the account is the sum of the worst of each series.
+/// that the worst of the account is the sum of the worst of each series. The
+/// paths of a series without rows are tried too.
 fn check_cover_and_least_amount(
     account: &Account,
     claim: &Claim,
@@ -91,11 +92,9 @@ fn check_cover_and_least_amount(
     let mut steps = 0;
     let mut worst_of_account = 0;
     for number in 0..account.series.len() {
-        if account.positions.iter().any(|position| position.series == number) {
-            let (tried, worst) = worst_paths(account, claim, number, longest_path)?;
-            steps += tried;
-            worst_of_account += worst;
-        }
+        let (tried, worst) = worst_paths(account, claim, number, longest_path)?;
+        steps += tried;
+        worst_of_account += worst;
     }
     if i128::from(claim.margin.total) * i128::from(MILLION) < worst_of_account {
         return Err(format!(

@@ -61,6 +61,8 @@ fn variants() -> Vec<Variant> {
         }
     }
     all.retain(|v| !v.knocked_in || v.kind == UP_AND_IN || v.kind == DOWN_AND_IN);
+    // Without a barrier nothing is within reach or out of it.
+    all.retain(|v| v.kind != NO_BARRIER || v.within_reach);
     all
 }
 

@@ -13,6 +13,7 @@ mod extremes;
 mod kinds_and_flags;
 mod knock_out_spreads;
 mod many_rows;
+mod no_positions;
 mod other_spreads;
 mod position_faults;
 mod row_faults;
@@ -83,6 +84,7 @@ pub fn all_cases() -> Vec<Case> {
         cover_sheets::add,
         many_rows::add,
         extremes::add,
+        no_positions::add,
         trailer_faults::add,
         row_faults::add,
         two_faults::add,

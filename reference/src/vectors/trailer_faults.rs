@@ -9,7 +9,6 @@ pub fn add(cases: &mut Cases) {
     cases.accept("the sound account", sound());
     lengths(cases);
     counts(cases);
-    no_positions(cases);
     distances(cases);
 }
 
@@ -51,12 +50,6 @@ fn counts(cases: &mut Cases) {
             refuse(cases, format!("last byte {at} is {value}"), draft, 2);
         }
     }
-}
-
-/// Refusal 3.
-fn no_positions(cases: &mut Cases) {
-    refuse(cases, "no positions", Draft { positions: vec![], ..sound() }, 3);
-    refuse(cases, "p stated as 0", Draft { stated_p: Some(0), ..sound() }, 3);
 }
 
 /// Refusal 4.

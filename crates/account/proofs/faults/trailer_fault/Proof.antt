@@ -4,10 +4,9 @@ use Rattle.rules.proofs.Chain.{inside, passes, stops}
 use Rattle.rules.specs.File.{trailerWidth}
 use Rattle.rules.specs.Limits.{mostBytes}
 use Rattle.rules.specs.Refusals.{trailerFault}
-use borrow.Author.Tests.{eq-eqb, ne-eqb}
 use denote.Ref.{now}
 use lib.ListN.{length}
-use mathlib.Core.Path.{refl, sym, _∙_}
+use mathlib.Core.Path.{refl}
 
 returns : tie.Need-returns
 unfolding trailerFault
@@ -20,33 +19,16 @@ returns-2 : tie.Need-returns-2
 unfolding trailerFault
 returns-2 c = passes _ _ _ _ _ refl (c .before .before .if1 .left) (stops _ _ _ _ (c .before .wrong-trailer .ensures) (c .if2 .taken))
 
-position-count-requires : tie.Need-position-count-requires
-position-count-requires c κs = inside trailerWidth mostBytes (length (now (c .before .before .before .before .args .file))) (c .before .before .if1 .left) .0
+wrong-distance-requires : tie.Need-wrong-distance-requires
+wrong-distance-requires c κs = inside trailerWidth mostBytes (length (now (c .before .before .before .before .args .file))) (c .before .before .if1 .left) .0
 
 returns-3 : tie.Need-returns-3
 unfolding trailerFault
-returns-3 c = passes _ _ _ _ _ refl (c .before .before .before .before .if1 .left) (passes _ _ _ _ _ (c .before .before .before .wrong-trailer .ensures) (c .before .before .if2 .left) (stops _ _ _ _ refl (eq-eqb _ 0 (sym (c .before .position-count .ensures .0) ∙ c .if3 .taken))))
-
-wrong-distance-requires : tie.Need-wrong-distance-requires
-wrong-distance-requires c κs = inside trailerWidth mostBytes (length (now (c .before .before .before .before .before .before .args .file))) (c .before .before .before .before .if1 .left) .0
+returns-3 c = passes _ _ _ _ _ refl (c .before .before .before .before .if1 .left) (passes _ _ _ _ _ (c .before .before .before .wrong-trailer .ensures) (c .before .before .if2 .left) (stops _ _ _ _ (c .before .wrong-distance .ensures) (c .if3 .taken)))
 
 returns-4 : tie.Need-returns-4
 unfolding trailerFault
-returns-4 c = passes _ _ _ _ _ refl (c .before .before .before .before .before .before .if1 .left) (passes _ _ _ _ _ (c .before .before .before .before .before .wrong-trailer .ensures) (c .before .before .before .before .if2 .left) (passes _ _ _ _ _ refl (ne-eqb _ 0 (λ z. c .before .before .if3 .left (c .before .before .before .position-count .ensures .0 ∙ z))) (stops _ _ _ _ (c .before .wrong-distance .ensures) (c .if4 .taken))))
-
-returns-5 : tie.Need-returns-5
-unfolding trailerFault
-returns-5 c = passes _ _ _ _ _ refl (c .before .before .before .before .before .before .if1 .left) (passes _ _ _ _ _ (c .before .before .before .before .before .wrong-trailer .ensures) (c .before .before .before .before .if2 .left) (passes _ _ _ _ _ refl (ne-eqb _ 0 (λ z. c .before .before .if3 .left (c .before .before .before .position-count .ensures .0 ∙ z))) (passes _ _ _ _ _ (c .before .wrong-distance .ensures) (c .if4 .left) refl)))
+returns-4 c = passes _ _ _ _ _ refl (c .before .before .before .before .if1 .left) (passes _ _ _ _ _ (c .before .before .before .wrong-trailer .ensures) (c .before .before .if2 .left) (passes _ _ _ _ _ (c .before .wrong-distance .ensures) (c .if3 .left) refl))
 
 pub trailer-fault-spec : {M : Type 1} → statement M
-trailer-fault-spec =
-    tie.close
-    (tie.spec
-    returns
-    wrong-trailer-requires
-    returns-2
-    position-count-requires
-    returns-3
-    wrong-distance-requires
-    returns-4
-    returns-5)
+trailer-fault-spec = tie.close (tie.spec returns wrong-trailer-requires returns-2 wrong-distance-requires returns-3 returns-4)
