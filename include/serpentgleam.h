@@ -5,7 +5,7 @@
  * `make install` with the archive or the shared object as `pkg-config --cflags --libs serpentgleam` says.
  *
  * The library has no state, takes no memory from a heap, starts no thread and calls nothing of the operating system: every
- * call may be made from any thread, and calls on different threads do not affect each other. A call needs about 40 KB of
+ * call may be made from any thread, and calls on different threads do not affect each other. A call needs about 34 KB of
  * stack.
  *
  * It reads the bytes handed over during the call alone, keeps no pointer to them and writes nothing to them; the caller
@@ -15,7 +15,8 @@
  * An account file has at most 65,536 bytes. Any bytes may be handed over: a file that is not in order is refused, and
  * nothing is read outside it. With length 0 the pointer may be NULL.
  *
- * A refusal is a number from 1 to 13, below with a name for each; serpentgleam_refusal_sentence gives its sentence.
+ * A refusal is a number from 1 to 13, below with a name for each; serpentgleam_refusal_sentence gives its sentence. The
+ * number 3 is not used: an account without positions is accepted, with no lines, premiums 0 and total 0.
  */
 #ifndef SERPENTGLEAM_H
 #define SERPENTGLEAM_H
@@ -24,9 +25,9 @@
 #include <stdint.h>
 
 /* The version of this header and of the library that it came with. */
-#define SERPENTGLEAM_VERSION "0.1.0"
+#define SERPENTGLEAM_VERSION "0.2.0"
 #define SERPENTGLEAM_VERSION_MAJOR 0
-#define SERPENTGLEAM_VERSION_MINOR 1
+#define SERPENTGLEAM_VERSION_MINOR 2
 #define SERPENTGLEAM_VERSION_PATCH 0
 
 /* Limits of every account: bytes of its file, series, positions, and lines of its margin. */
@@ -39,10 +40,9 @@
 #define SERPENTGLEAM_PAIR 1
 #define SERPENTGLEAM_LEFT 2
 
-/* The refusals. */
+/* The refusals. No refusal has the number 3: before version 0.2.0 an account without positions was refused with it. */
 #define SERPENTGLEAM_REFUSED_FILE_SIZE 1
 #define SERPENTGLEAM_REFUSED_TRAILER 2
-#define SERPENTGLEAM_REFUSED_NO_POSITIONS 3
 #define SERPENTGLEAM_REFUSED_DISTANCE 4
 #define SERPENTGLEAM_REFUSED_SERIES_RANGE 5
 #define SERPENTGLEAM_REFUSED_SERIES_TYPE 6
@@ -66,8 +66,6 @@ static inline const char *serpentgleam_refusal_sentence(uint64_t number)
         return "the file has fewer than 12 or more than 65,536 bytes";
     case SERPENTGLEAM_REFUSED_TRAILER:
         return "series count not 1 to 32, position count above 256, or one of the last four bytes not zero";
-    case SERPENTGLEAM_REFUSED_NO_POSITIONS:
-        return "the account has no positions";
     case SERPENTGLEAM_REFUSED_DISTANCE:
         return "the distance to the first series row is not 12 + 24 x series + 32 x positions, or longer than the file";
     case SERPENTGLEAM_REFUSED_SERIES_RANGE:
@@ -137,7 +135,8 @@ struct serpentgleam_result {
  *
  * file, length: the account file's bytes.
  * lines, room: the list and how many entries it has. SERPENTGLEAM_MOST_LINES are enough for every account; fewer than
- * the account has positions are refused with SERPENTGLEAM_REFUSED_LIST_TOO_SHORT. With room 0 the pointer may be NULL.
+ * the account has positions are refused with SERPENTGLEAM_REFUSED_LIST_TOO_SHORT. With room 0, which is enough for an
+ * account without positions, the pointer may be NULL.
  *
  * Entries after the last line keep their content, and on a refusal every entry does.
  */

@@ -71,10 +71,24 @@ version $version
 pair 0
 pair 3000
 left 7500
+entries kept 253
 premium 300, refusal 0
 total 10800, refusal 0
 amount 25000
+no list: refusal 12, row 0, lines 0, total 0
 refused 1 0: the file has fewer than 12 or more than 65,536 bytes
+3: there is no refusal of this number
+EXPECTED
+        LD_LIBRARY_PATH=$prefix/lib ./client "$top/examples/no_positions.account" > client.out
+        same client.out "$language $way without positions" <<EXPECTED
+version $version
+entries kept 256
+premium 0, refusal 0
+total 0, refusal 0
+amount -13
+no list: refusal 0, row 0, lines 0, total 0
+refused 1 0: the file has fewer than 12 or more than 65,536 bytes
+3: there is no refusal of this number
 EXPECTED
     done
 done

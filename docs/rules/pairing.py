@@ -82,5 +82,5 @@ def answer_of(rows):
     products = ' + '.join(f'{row.premium} × {row.series.M} × {row.Q}' for row in held)
     amounts = [line.split()[-1] for line in lines] + [str(premiums)]
     workings.append(f'{products} = {premiums}' if held else 'none')
-    workings.append(f'{" + ".join(amounts)} = {total + premiums}')
+    workings.append(f'{" + ".join(amounts)} = {total + premiums}' if lines else 'none')
     return Answer(lines + [f'premium {premiums}', f'total {total + premiums}'], workings)

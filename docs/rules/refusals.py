@@ -13,12 +13,11 @@ def rows(*lines, series=CALL, trailer=None):
     return file_from_text('\n'.join([series, *lines]) + '\n', trailer)
 
 
-# Number, what it is given for, the example in words, its file, the row that the answer must name.
+# Number, what it is given for, the example in words, its file, the row that the answer must name. 3 is withdrawn.
 REFUSALS = [
     (1, 'Trailer: file below 12 or above 65,536 bytes', 'a file of 11 bytes', lambda: bytes(11), 0),
     (2, 'Trailer: s not 1 to 32, p above 256, or one of the last four bytes not zero', 's = 33',
      lambda: rows(GOOD, trailer=(33, 1, 12 + 24 * 33 + 32, 0)), 0),
-    (3, 'Trailer: p is 0', 'a series and no position', lambda: rows(), 0),
     (4, 'Trailer: distance not 12 + 24 × s + 32 × p, or longer than the file', 's = 1, p = 1, distance 69',
      lambda: rows(GOOD, trailer=(1, 1, 12 + 24 + 32 + 1, 0)), 0),
     (5, f'Series row: PV not 1 to {MOST}, fa not 1.0 to 10.0, fb not 0.0 to fa, f3 not 0.0 to 1.0, or M not 1 to 1,000',
@@ -37,8 +36,8 @@ REFUSALS = [
     (11, 'Position row: up barrier not above PV, or down barrier not below PV, unless already knocked in',
      '`PV=3000`, second row `down-and-out=3000`', lambda: rows(GOOD, GOOD + ' down-and-out=3000'), 1),
 ]
-# Two faults at once: the example in words, its file, what margin must print.
-FIRST_FAULTS = [
+# Two faults at once, and files without positions: the example in words, its file, what margin must print.
+OTHER_FILES = [
     ('one row: Q = 0 (8) and PB = PE (9)', lambda: rows('written Q=0 PE=3100 PB=3100 european'), 'refused 8 0'),
     ('position row 0: Q = 0 (8); series row 1: M = 0 (5)', lambda: rows(
         'written series=0 Q=0 PE=3100 european', series=CALL + '\n' + PUT.replace('M=5', 'M=0')), 'refused 5 1'),
@@ -46,6 +45,11 @@ FIRST_FAULTS = [
      lambda: rows(GOOD + ' up-and-out=3000', 'written Q=0 PE=3100 european'), 'refused 11 0'),
     ('position row 0: already knocked in, up-and-in at PV: no fault',
      lambda: rows(GOOD + ' up-and-in=3000 knocked-in'), 'left 0 10 25000'),
+    ('s = 0 (2), p = 0', lambda: rows(trailer=(0, 0, 12, 0)), 'refused 2 0'),
+    ('p = 0, distance 37 (4)', lambda: rows(trailer=(1, 0, 12 + 24 + 1, 0)), 'refused 4 0'),
+    ('p = 0; series row 1: M = 0 (5)', lambda: rows(series=CALL + '\n' + PUT.replace('M=5', 'M=0')), 'refused 5 1'),
+    ('p = 0; series row 1: type 2 (6)', lambda: rows(series=CALL + '\n' + PUT.replace('put', 'type=2')), 'refused 6 1'),
+    ('p = 0 and the rest in order: no fault', lambda: rows(), 'premium 0'),
 ]
 
 
@@ -55,12 +59,12 @@ def answer(example, file, expected):
 
 
 def refusal_table(_):
-    """The numbers of document 01's table, and files with two faults."""
+    """The numbers of document 01's table, and files with two faults or without positions."""
     lines = ['| Number | Given for | Example | `margin` prints |', '|---|---|---|---|']
     lines += [f'| {number} | {given} | {example} | {answer(example, file(), f"refused {number} {row}")} |'
               for number, given, example, file, row in REFUSALS]
     lines += ['| 12 | Line list: fewer than p entries | C call `serpentgleam_margin` alone | |',
               '| 13 | Row asked for: p or above | C call `serpentgleam_position_amount` alone | |', '',
               '| File | `margin` prints |', '|---|---|']
-    lines += [f'| {example} | {answer(example, file(), expected)} |' for example, file, expected in FIRST_FAULTS]
+    lines += [f'| {example} | {answer(example, file(), expected)} |' for example, file, expected in OTHER_FILES]
     return '\n'.join(lines)

@@ -12,6 +12,6 @@ from .answers import REASONS, Left, Margin, Pair, Refusal, Refused
 from .engine import margin, margin_or_refusal, position_amount
 from .library import NotFound
 
-__version__ = '0.1.0'
+__version__ = '0.2.0'
 __all__ = ['REASONS', 'Left', 'Margin', 'NotFound', 'Pair', 'Refusal', 'Refused', 'margin', 'margin_or_refusal',
            'position_amount']

@@ -1,10 +1,9 @@
 """What the engine answers: the margin of an account, or the refusal of its file, whose sentences stand here."""
 from typing import NamedTuple, Tuple
 
-REASONS = {
+REASONS = {  # 3 is not used: an account without positions is accepted
     1: 'the file has fewer than 12 or more than 65,536 bytes',
     2: 'series count not 1 to 32, position count above 256, or one of the last four bytes not zero',
-    3: 'the account has no positions',
     4: 'the distance to the first series row is not 12 + 24 x series + 32 x positions, or longer than the file',
     5: 'a series row: PV, fa, fb, f3 or M outside its range',
     6: 'a series row: type above 1, or a spare byte not zero',
@@ -16,6 +15,7 @@ REASONS = {
     12: 'the list of lines has fewer entries than the account has positions',
     13: 'there is no position row of the number asked for',
 }
+NO_SUCH_REFUSAL = 'there is no refusal of this number'
 
 
 class Pair(NamedTuple):
@@ -48,8 +48,8 @@ class Refusal(NamedTuple):
 
     @property
     def reason(self) -> str:
-        """The sentence of the number."""
-        return REASONS[self.number]
+        """The sentence of the number, and of a number that no refusal has the header's sentence for it."""
+        return REASONS.get(self.number, NO_SUCH_REFUSAL)
 
     def __str__(self) -> str:
         return f'refused {self.number} {self.row}: {self.reason}'

@@ -118,6 +118,4 @@ def trailer_faults(data):
     faults = [Fault(field=field.name, refusal=field.limits.refusal, sentence=f'in the trailer the '
                     f'{limits_sentence(field)}, and here it is {field.form.write(trailer[field.name])}')
               for field in outside(TRAILER, trailer)]
-    if trailer['position count'] == 0:
-        faults.append(Fault(field='position count', refusal=3, sentence='the trailer counts no positions'))
     return faults + distance_faults(data, trailer)

@@ -32,7 +32,7 @@ MARGIN = '''usage: serpentgleam margin [--json | --csv] [-o OUTPUT] [-q] [--from
 
 Prints each line of an answer after its file's name and a tab: as the program margin prints it, and the sentence of a
 refusal after another tab. A summary stands on standard error. A file that cannot be read is named there and has no
-answer; the others are answered.
+answer; the others are answered. An account without positions has premium 0 and total 0 and no other line.
 
 ''' + NAMES + FORMS + QUIET + '''
 Text     pair WRITTEN-ROW HELD-ROW CONTRACTS AMOUNT, left ROW CONTRACTS AMOUNT, premium AMOUNT, total AMOUNT, or
@@ -69,7 +69,7 @@ TO_TEXT = '''usage: serpentgleam to-text [-o OUTPUT] [FILE]
 
 Writes an account file as text; without FILE that of standard input. Under a row that is out of order stands why, with
 the number of the refusal: a help for reading, the engine's own answer decides. Back through to-file the text gives the
-same bytes. A file refused with 1 to 4 has no rows to show; then one sentence says what is wrong with its trailer.
+same bytes. A file refused with 1, 2 or 4 has no rows to show; then one sentence says what is wrong with its trailer.
 
   -o, --output OUTPUT    into this file, which appears whole when all is done or not at all
 '''
@@ -84,7 +84,7 @@ with line and field. A text that breaks a rule of document 01 gives its file, an
 The text:
 ''' + EXAMPLE + r'''
 One line a series, one a position, # begins a comment. After the first word the words are in any order. Series rows and
-position rows are each counted from 0 in the order of their lines.
+position rows are each counted from 0 in the order of their lines. An account without positions has series lines alone.
 
 series         call or put, PV, fa, fb, f3, M. A factor is always a decimal with its point and at most six places (1.0,
                0.05): without the point it is an error, so that nobody takes 1200000 millionths for a factor of 1200000.

@@ -62,6 +62,12 @@ def row_with(text):
     return account_of(file_with(text)).positions[0]
 
 
+def without_positions():
+    """Accounts without positions: of one series and of 32, each without a cover sheet and with one that has rows."""
+    return [cover + file_from_text((SERIES_TEXT * count).encode())
+            for count in (1, 32) for cover in (b'', bytes_of(DOCUMENT)[:-12])]
+
+
 def long_account():
     """An account whose answer has more than 4,096 bytes, which is what a pipe takes in one piece."""
     return file_with(''.join(f'{"held" if row % 2 else "written"} Q={row + 1} PE={3100 + row} european\n'

@@ -117,7 +117,7 @@ class Checks(unittest.TestCase):
     def test_examples(self):
         texts = [name.replace('.account', '.txt') for name in EXAMPLES]
         status, output, errors = command('check', *EXAMPLES, *texts)
-        self.assertEqual((status, errors), (1, 'serpentgleam: 10 files: 8 in order, 2 with faults\n'))
+        self.assertEqual((status, errors), (1, 'serpentgleam: 12 files: 10 in order, 2 with faults\n'))
         self.assertEqual(output.decode().split('\n'), [
             f'{WRONG_SIDE}: position row 2, field barrier-price: refusal 11: a down barrier is below PV, unless '
             'knocked-in',
@@ -141,14 +141,12 @@ class Checks(unittest.TestCase):
                    'line 290, field position count: refusal 2: in the trailer the position count is 0 to 256, and here '
                    'it is 257')
         self.check('x.txt', b'',
-                   'field series count: refusal 2: in the trailer the series count is 1 to 32, and here it is 0',
-                   'field position count: refusal 3: the trailer counts no positions')
+                   'field series count: refusal 2: in the trailer the series count is 1 to 32, and here it is 0')
         self.check('x', b'', 'refusal 1: the file has 0 bytes, and an account file has 12 to 65536')
         data = file_with('held Q=1 PE=1')
         self.check('x', data[:-12] + b'\0\0\0\0\0\0\0\0\0\0\0\1',
                    'field series count: refusal 2: in the trailer the series count is 1 to 32, and here it is 0',
                    'field ending: refusal 2: in the trailer the ending is 00000000, and here it is 00000001',
-                   'field position count: refusal 3: the trailer counts no positions',
                    'field distance: refusal 4: the distance in the trailer is 0, and its counts make it 12')
 
     def test_json_and_csv(self):

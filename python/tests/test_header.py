@@ -59,6 +59,11 @@ class Numbers(unittest.TestCase):
         self.assertEqual(len(cases), len(re.findall(r'^ *case ', HEADER, re.MULTILINE)))
         self.assertEqual([(NUMBERS[name], sentence) for name, sentence in cases], list(serpentgleam.REASONS.items()))
 
+    def test_no_such_refusal(self):
+        sentence = re.search(r'default:\s+return "(.*)";', HEADER)[1]
+        for number in (0, 3, 14):
+            self.assertEqual(serpentgleam.Refusal(number, 0).reason, sentence)
+
     def test_structures(self):
         fields = re.search(r'struct serpentgleam_result \{(.*?)\}', HEADER, re.DOTALL)[1]
         self.assertEqual(re.findall(r'uint64_t (\w+);', fields), [name for name, _ in library.Result._fields_])

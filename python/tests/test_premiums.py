@@ -4,7 +4,7 @@ refusals.
 import ctypes
 import unittest
 
-from support import DOCUMENT, SERIES_TEXT, VECTORS, bytes_of
+from support import DOCUMENT, SERIES_TEXT, VECTORS, bytes_of, without_positions
 
 from serpentgleam import Refusal, library, margin_or_refusal
 from serpentgleam.text import file_from_text
@@ -35,6 +35,10 @@ class Premiums(unittest.TestCase):
             self.assertEqual(premiums(data), expected)
             with_premiums += expected[2] > 0
         self.assertGreater(with_premiums, 0)
+
+    def test_no_positions(self):
+        for data in without_positions():
+            self.assertEqual(premiums(data), (0, 0, 0))
 
     def test_no_bytes(self):
         for data in (None, b''):

@@ -1,11 +1,13 @@
-"""The proved programs tell of an answer that cannot be written, and none stands in the place of a lost one."""
+"""The proved programs tell of an answer that cannot be written, and none stands in the place of a lost one. An account
+without positions has an answer like any other.
+"""
 import os
 import resource
 import signal
 import subprocess
 import unittest
 
-from support import DOCUMENT, TOP, bytes_of, folder
+from support import DOCUMENT, TOP, bytes_of, folder, without_positions
 
 from account_batch import framed
 
@@ -61,6 +63,17 @@ class UnwrittenAnswers(unittest.TestCase):
         with os.fdopen(pipe, 'wb') as closed:
             ignored = {'preexec_fn': lambda: signal.signal(signal.SIGPIPE, signal.SIG_IGN), 'restore_signals': False}
             self.assertEqual(program('margin_batch', self.accounts, stdout=closed, **ignored)[1], LOST)
+
+
+class NoPositions(unittest.TestCase):
+    def test_one_account(self):
+        for data in without_positions():
+            self.assertEqual(program('margin', data), (b'premium 0\ntotal 0\n', b''))
+
+    def test_among_others(self):
+        empty, document = b'premium 0\ntotal 0\n\n', program('margin', bytes_of(DOCUMENT))[0] + b'\n'
+        accounts = [account for data in without_positions() for account in (data, bytes_of(DOCUMENT))]
+        self.assertEqual(program('margin_batch', framed(accounts)), ((empty + document) * 4, b''))
 
 
 if __name__ == '__main__':

@@ -60,13 +60,13 @@ class RoundTrip(unittest.TestCase):
         for data, answer in VECTORS:
             if trailer_faults(data):
                 self.assertRegex(unreadable(data), rf'\A{answer}: [^\n]+\Z')
-                self.assertRegex(answer, r'\Arefused [1-4] 0\Z')
+                self.assertRegex(answer, r'\Arefused [124] 0\Z')
 
     def test_random_rows(self):
         source = random.Random(81)
         for _ in range(3000):
             series = random_rows(source, SERIES, source.randint(1, 3))
-            positions = random_rows(source, POSITION, source.randint(1, 4))
+            positions = random_rows(source, POSITION, source.randint(0, 4))
             self.check(file_of(Account(source.randbytes(source.choice((0, 0, 5, 90))), series, positions)))
 
     def test_random_bytes_in_files(self):
@@ -164,7 +164,7 @@ class Form(unittest.TestCase):
             self.assertIn('\n' + lines + 'series', text_from_file(cover + file_with('held Q=1 PE=1')).decode())
 
     def test_faulty_counts_can_be_written(self):
-        for text, refusal in ((SERIES_TEXT, 3), ('', 2), (SERIES_TEXT * 33, 2), ('held series=0 Q=1 PE=1', 2)):
+        for text, refusal in (('', 2), (SERIES_TEXT * 33, 2), ('held series=0 Q=1 PE=1', 2)):
             self.assertEqual(trailer_faults(file_from_text(text.encode()))[0].refusal, refusal)
 
 
@@ -176,7 +176,7 @@ class Trailers(unittest.TestCase):
                 (bytes(65_537), '1 0: the file has more than 65536 bytes, and an account file has 12 to 65536'),
                 (data[:-12] + b'\0' + data[-11:], '2 0: in the trailer the series count is 1 to 32, and here it is 0'),
                 (data[:-1] + b'\1', '2 0: in the trailer the ending is 00000000, and here it is 00000001'),
-                (data[:-10] + b'\0' + data[-9:], '3 0: the trailer counts no positions'),
+                (data[:-10] + b'\0' + data[-9:], '4 0: the distance in the trailer is 68, and its counts make it 36'),
                 (data[:-8] + b'\1' + data[-7:], '4 0: the distance in the trailer is 1, and its counts make it 68'),
                 (data[1:], '4 0: the distance in the trailer is 68, and the file has only 67 bytes')):
             self.assertEqual(unreadable(faulty), f'refused {sentence}')
