@@ -1,15 +1,15 @@
 // The mark of a row, made once, and what keys have of it.
 use crate::UP;
+use position::quantities::has_limiter;
 use position::quantities::normalised;
 use rules::Barrier;
 use rules::Position;
 use rules::Side;
-use spreads::terms::european_or_before_annex;
-use spreads::terms::has_limiter;
 ghost use Prim.Native.Nat.{_≤_};
 ghost use mathlib.Core.Path.{_≡_};
 ghost use Rattle.lanes.specs.Keys.{InRange, barrierFamily, family, last};
 ghost use Rattle.lanes.specs.Marks.{markFrom, markGroup, markOf, markPlace, markTop, roleOf, sideRole};
+ghost use Rattle.rules.specs.Pairs.{europeanOrBeforeAnnex};
 
 // What stands for no key, no rank and no distance.
 pub const NONE: u64 = 1_152_921_504_606_846_976;
@@ -49,6 +49,13 @@ fn side_role(side: Side) -> u64
         Side::Held => 0,
         Side::Written => 1,
     }
+}
+
+fn european_or_before_annex(p: Position) -> bool
+    ensures { λ r. ⌜ r ≡ europeanOrBeforeAnnex p ⌝ }
+{
+    let flags = p.flags;
+    flags.european | flags.beforeAnnex
 }
 
 // The held row of a pair, the written row of a pair, or neither.

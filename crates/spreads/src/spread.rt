@@ -1,13 +1,13 @@
 // The unit spread margin, rule by rule.
 use crate::out::down_out_spread;
 use crate::out::up_out_spread;
-use crate::terms::has_limiter;
 use crate::terms::is_knock_in;
 use crate::terms::kind_of;
 use crate::terms::price_of;
 use crate::terms::same_terms;
 use numbers::fine_units;
 use numbers::less;
+use position::quantities::has_limiter;
 use rules::Barrier;
 use rules::OptionType;
 use rules::Series;

@@ -2,14 +2,11 @@
 use rules::Barrier;
 use rules::Limiter;
 use rules::OptionType;
-use rules::Position;
-use rules::Side;
 use rules::Terms;
 ghost use mathlib.Core.Path.{_≡_};
 ghost use Rattle.rules.proofs.SpreadForms.{knockIn};
-ghost use Rattle.rules.specs.Pairs.{europeanOrBeforeAnnex, isHeld, isWritten};
 ghost use Rattle.rules.specs.declared.Barrier.the-variants.{NoBarrier};
-ghost use Rattle.rules.specs.Spreads.{hasLimiter, kindOf, priceOf, same, sameBarrier, sameLimiter, strikeCovers};
+ghost use Rattle.rules.specs.Spreads.{kindOf, priceOf, same, sameBarrier, sameLimiter, strikeCovers};
 
 pub fn kind_of(barrier: Barrier) -> u32
     ensures { λ r. ⌜ r ≡ kindOf barrier ⌝ }
@@ -32,15 +29,6 @@ pub fn price_of(barrier: Barrier) -> u32
         Barrier::DownIn(price) => price,
         Barrier::UpOut(price) => price,
         Barrier::DownOut(price) => price,
-    }
-}
-
-pub fn has_limiter(limiter: Limiter) -> bool
-    ensures { λ r. ⌜ r ≡ hasLimiter limiter ⌝ }
-{
-    match limiter {
-        Limiter::NoLimiter => false,
-        Limiter::At(_) => true,
     }
 }
 
@@ -143,29 +131,4 @@ pub fn strike_covers(option: OptionType, h: Terms, w: Terms) -> bool
         OptionType::Call => h.pe <= w.pe,
         OptionType::Put => w.pe <= h.pe,
     }
-}
-
-pub fn is_written(side: Side) -> bool
-    ensures { λ r. ⌜ r ≡ isWritten side ⌝ }
-{
-    match side {
-        Side::Held => false,
-        Side::Written => true,
-    }
-}
-
-pub fn is_held(side: Side) -> bool
-    ensures { λ r. ⌜ r ≡ isHeld side ⌝ }
-{
-    match side {
-        Side::Held => true,
-        Side::Written => false,
-    }
-}
-
-pub fn european_or_before_annex(p: Position) -> bool
-    ensures { λ r. ⌜ r ≡ europeanOrBeforeAnnex p ⌝ }
-{
-    let flags = p.flags;
-    flags.european | flags.beforeAnnex
 }
