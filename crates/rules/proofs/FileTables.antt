@@ -1,5 +1,5 @@
 -- Computed values of the file, its refusals and the answers: the third part of the table of `RuleValues`.
-use Prim.Native.Nat.{ℕ, zero, suc}
+use Prim.Native.Nat.{ℕ}
 use mathlib.Core.Bool.{Bool, true, false}
 use mathlib.Core.List.{List, [], _∷_, _++_}
 use mathlib.Core.Path.{_≡_}
@@ -144,13 +144,9 @@ mixed =
     ++ rowBytes 0 0 0 4 5 3250 0 0 0 11
     ++ trailerBytes 2 4 (span 2 4) 0
 
--- n call series, and an account of 32 series and no positions.
-abbrev pub callSeries : ℕ → List ℕ
-callSeries zero = []
-callSeries (suc n) = typedBytes 3000 0 ++ callSeries n
-
+-- A call series and a put series without positions.
 abbrev pub noPositions : List ℕ
-noPositions = callSeries 32 ++ trailerBytes 32 0 (span 32 0) 0
+noPositions = typedBytes 3000 0 ++ typedBytes 3000 1 ++ trailerBytes 2 0 (span 2 0) 0
 
 -- What the operations answer, as numbers and as text.
 abbrev pub Answers : Type 0
