@@ -29,7 +29,7 @@ fn pairs_made(file: &[u8], name: &str) -> usize {
 #[test]
 fn on_every_shape() {
     for shape in &SHAPES {
-        for size in [1, 2, 3, 16, 17, 64, 128, 255, 256] {
+        for size in [0, 1, 2, 3, 16, 17, 64, 128, 255, 256] {
             let pairs = pairs_made(&account(shape, size), shape.name);
             assert!(size < 16 || shape.pairs == (pairs > 0), "{}", shape.name);
         }
