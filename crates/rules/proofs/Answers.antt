@@ -23,7 +23,6 @@ use Rattle.rules.specs.Refusals.{accepted, fileRead, meaning, meant, num
 use Rattle.rules.specs.declared.AmountAnswer.the-variants.{Amount, NoAmount}
 use Rattle.rules.specs.declared.FileRead.{FileRead}
 use Rattle.rules.specs.declared.FileRead.the-variants.{Accepted, Refused}
-use Rattle.rules.specs.declared.Layout.{Layout}
 use Rattle.rules.specs.declared.Line.{Line}
 use Rattle.rules.specs.declared.MarginAnswer.the-variants.{NoTotal, Total}
 use Rattle.rules.specs.declared.Refusal.{Refusal}

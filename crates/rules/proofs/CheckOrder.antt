@@ -107,6 +107,10 @@ trailerBytes s p d spare = bytes2 s ++ bytes2 p ++ bytes4 d ++ bytes4 spare
 abbrev file : ℕ → ℕ → List ℕ → List ℕ
 file pv spare positions = seriesBytes 3000 0 ++ seriesBytes pv spare ++ positions ++ trailerBytes 2 2 (span 2 2) 0
 
+-- A call series and no positions.
+abbrev pub noRows : List ℕ
+noRows = seriesBytes 3000 0 ++ trailerBytes 1 0 (span 1 0) 0
+
 -- Refusals are given by their number and row.
 pub file-order :
     -- 1 before 2: 11 zero bytes
@@ -135,7 +139,7 @@ pub file-order :
     -- Accepted, after a cover sheet of three bytes that is not read
     × (fileRead (255 ∷ 1 ∷ 2 ∷ file 3000 0 (positionBytes 1 0 1 3001 ++ positionBytes 2 0 1 2999)) ≡ Accepted (record { series = 2; positions = 2; seriesStart = 3; positionsStart = 51; width = 32 }))
     -- The same without positions
-    × (fileRead (255 ∷ 1 ∷ 2 ∷ seriesBytes 3000 0 ++ trailerBytes 1 0 (span 1 0) 0) ≡ Accepted (record { series = 1; positions = 0; seriesStart = 3; positionsStart = 27; width = 32 }))
+    × (fileRead (255 ∷ 1 ∷ 2 ∷ noRows) ≡ Accepted (record { series = 1; positions = 0; seriesStart = 3; positionsStart = 27; width = 32 }))
 unfolding meaning fileRead layout seriesRow positionRow seriesRows positionRows rows trailerFault seriesRowFault positionRowFault matchedFault refuse
 file-order = (refl, refl, refl, refl, refl, refl, refl, refl, refl, refl, refl, refl, refl, refl, refl, refl)
 
@@ -145,10 +149,6 @@ two = file 3000 0 (positionBytes 0 0 1 0 ++ positionBytes 0 0 1 0)
 
 abbrev one : List ℕ
 one = seriesBytes 3000 0 ++ positionBytes 0 0 1 0 ++ trailerBytes 1 1 (span 1 1) 0
-
--- A call series and no positions.
-abbrev noRows : List ℕ
-noRows = seriesBytes 3000 0 ++ trailerBytes 1 0 (span 1 0) 0
 
 abbrev entry : ℕ → Line
 entry n = record { kind = n; secondNumber = n; thirdNumber = n; fourthNumber = n; fifthNumber = n }

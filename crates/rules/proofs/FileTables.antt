@@ -4,14 +4,14 @@ use mathlib.Core.Bool.{Bool, true, false}
 use mathlib.Core.List.{List, [], _∷_, _++_}
 use mathlib.Core.Path.{_≡_}
 use lib.IntN.{negℤ, pos}
-use Rattle.rules.proofs.CheckOrder.{bytes4, trailerBytes}
+use Rattle.rules.proofs.CheckOrder.{bytes4, noRows, trailerBytes}
 use Rattle.rules.proofs.CheckedValues.{row, series}
 use Rattle.rules.specs.File.{barrierOf, flagsOf, limiterOf, optionOf, positionRowFrom, positionWidth, seriesRowFrom, seriesWidth, sideOf, span, trailerWidth, u16At, u24At, u32At, u8At}
 use Rattle.rules.specs.Limits.{mostBytes, mostPositions, mostSeries}
-use Rattle.rules.specs.Lines.{marginAnswer, premiumAnswer, total}
+use Rattle.rules.specs.Lines.{marginAnswer, premiumAnswer}
 use Rattle.rules.specs.OnePosition.{amountAnswer, signedAnswer}
 use Rattle.rules.specs.Output.{marginText, premiumsFor}
-use Rattle.rules.specs.Refusals.{meaning, refused, rows}
+use Rattle.rules.specs.Refusals.{meaning, refused}
 use Rattle.rules.specs.declared.AmountAnswer.the-variants.{Amount}
 use Rattle.rules.specs.declared.Barrier.the-variants.{NoBarrier, UpIn, DownIn, UpOut, DownOut}
 use Rattle.rules.specs.declared.Flags.{Flags}
@@ -144,10 +144,6 @@ mixed =
     ++ rowBytes 0 0 0 4 5 3250 0 0 0 11
     ++ trailerBytes 2 4 (span 2 4) 0
 
--- A call series and a put series without positions.
-abbrev pub noPositions : List ℕ
-noPositions = typedBytes 3000 0 ++ typedBytes 3000 1 ++ trailerBytes 2 0 (span 2 0) 0
-
 -- What the operations answer, as numbers and as text.
 abbrev pub Answers : Type 0
 Answers =
@@ -173,8 +169,7 @@ Answers =
     × (signedAnswer (amountAnswer mixed 4) ≡ negℤ (pos 13))
     × (signedAnswer (amountAnswer (twoRows (rowBytes 0 1 0 4 10 3100 0 0 0 1)) 0) ≡ negℤ (pos 8))
     -- Without positions: premium 0, total 0
-    × (marginText noPositions
+    × (marginText noRows
     ≡
     (112 ∷ 114 ∷ 101 ∷ 109 ∷ 105 ∷ 117 ∷ 109 ∷ 32 ∷ 48 ∷ 10 ∷ []) ++ (116 ∷ 111 ∷ 116 ∷ 97 ∷ 108 ∷ 32 ∷ 48 ∷ 10 ∷ []))
-    × (premiumAnswer noPositions ≡ Amount 0)
-    × (signedAnswer (amountAnswer noPositions 0) ≡ negℤ (pos 13))
+    × (premiumAnswer noRows ≡ Amount 0)

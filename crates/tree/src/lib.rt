@@ -1,7 +1,7 @@
 // A tournament tree of minima over p leaves: node i, from 1 to p - 1, is the smaller of nodes 2i and 2i + 1; leaf w is node
 // p + w; node 1 is the least of all leaves.
 use numbers::smaller;
-ghost use Prim.Native.Nat.{_+_, _*_, _≤_, _<_, min};
+ghost use Prim.Native.Nat.{_+_, _*_, _<_, min};
 ghost use lib.ListN.{length};
 ghost use mathlib.Core.Bool.{true};
 ghost use mathlib.Core.Path.{_≡_};
