@@ -1,9 +1,9 @@
-// The numbers of document 01's refusals, those of a file and those given after it.
+// The numbers of the refusals: those of a file, those given after it, and those of calls that take no file.
 use rules::Refusal;
 ghost use mathlib.Core.Path.{_≡_};
 ghost use Rattle.rules.specs.Refusals.{number};
 
-// Document 01's number of a refusal.
+// The number of a refusal.
 pub fn refusal_number(why: Refusal) -> u32
     ensures { λ n. ⌜ n ≡ number why ⌝ }
 {
@@ -20,5 +20,6 @@ pub fn refusal_number(why: Refusal) -> u32
         Refusal::BarrierSide => 11,
         Refusal::ListTooShort => 12,
         Refusal::RowAskedFor => 13,
+        Refusal::FactorsAskedFor => 14,
     }
 }

@@ -13,6 +13,7 @@ use lib.Dec.{ltb}
 use lib.IntN.{negℤ, pos}
 use lib.ListN.{drop, length, length-append, length-drop}
 use Rattle.rules.proofs.Demand3.{answered}
+use Rattle.rules.proofs.FileNumbers.{file-number}
 use Rattle.rules.proofs.LineLaws.{line-count, lines-are}
 use Rattle.rules.proofs.Reading.{accepted-within, within-accepted, within-read}
 use Rattle.rules.specs.File.{Account, accountOf, layout, positionCount}
@@ -26,10 +27,10 @@ use Rattle.rules.specs.declared.FileRead.the-variants.{Accepted, Refused
 use Rattle.rules.specs.declared.Line.{Line}
 use Rattle.rules.specs.declared.MarginAnswer.the-variants.{NoTotal, Total}
 use Rattle.rules.specs.declared.Refusal.{Refusal}
-use Rattle.rules.specs.declared.Refusal.the-variants.{FileSize, Trailer, Distance, SeriesRange, SeriesType, PositionTerms, PositionRange, LimiterPrice, BarrierPrice, BarrierSide, ListTooShort, RowAskedFor}
+use Rattle.rules.specs.declared.Refusal.the-variants.{FileSize, Trailer, Distance, SeriesRange, SeriesType, PositionTerms, PositionRange, LimiterPrice, BarrierPrice, BarrierSide, ListTooShort, RowAskedFor, FactorsAskedFor}
 
--- Every refusal's number is 1 to 13, so that 0 and amounts are never taken for one; and none is 3, which is withdrawn.
-pub number-range : (w : Refusal) → (1 ≤ number w) × (number w ≤ 13) × (number w ≡ 3 → ⊥)
+-- Every refusal's number is 1 to 14, so that 0 and amounts are never taken for one; and none is 3, which is withdrawn.
+pub number-range : (w : Refusal) → (1 ≤ number w) × (number w ≤ 14) × (number w ≡ 3 → ⊥)
 number-range FileSize = (omega arith, omega arith, λ (q : number FileSize ≡ 3). omega arith)
 number-range Trailer = (omega arith, omega arith, λ (q : number Trailer ≡ 3). omega arith)
 number-range Distance = (omega arith, omega arith, λ (q : number Distance ≡ 3). omega arith)
@@ -42,6 +43,7 @@ number-range BarrierPrice = (omega arith, omega arith, λ (q : number BarrierPri
 number-range BarrierSide = (omega arith, omega arith, λ (q : number BarrierSide ≡ 3). omega arith)
 number-range ListTooShort = (omega arith, omega arith, λ (q : number ListTooShort ≡ 3). omega arith)
 number-range RowAskedFor = (omega arith, omega arith, λ (q : number RowAskedFor ≡ 3). omega arith)
+number-range FactorsAskedFor = (omega arith, omega arith, λ (q : number FactorsAskedFor ≡ 3). omega arith)
 
 module _ (b : List ℕ) where
   -- The answer, and the lines given, by the reading.
@@ -130,6 +132,14 @@ module _ (b : List ℕ) where
               let r : 0 ≡ row = cc in
               inr (accountOf b l, ap (meant b) q, ltb-true n (l .positions) t, ap number (sym p), sym r)
           by-room false t m = let z : _≡_ {A = ℕ} 0 1 = cc in absurd (omega arith)
+
+  -- So the number that a margin is refused with is 12 at most, whatever numbers other calls give.
+  pub margin-number : (n : ℕ) (w : Refusal) (row : ℕ) → marginAnswer b n ≡ NoTotal w row → number w ≤ 12
+  margin-number n w row e = go (refusal-is n w row e)
+    where
+      go : (meaning b ≡ refused (number w) row) ⊎ ((a : Account) × (meaning b ≡ accepted a) × (n < a .positions) × (number w ≡ 12) × (row ≡ 0)) → number w ≤ 12
+      go (inl f) = omega (arith, file-number b (number w) row f)
+      go (inr (a, f, l, q, z)) = omega arith
 
   -- "Every lent list keeps its content": after a refusal the list is what it was, whatever it held.
   pub refusal-keeps : (out : List Line) (w : Refusal) (row : ℕ) → marginAnswer b (length out) ≡ NoTotal w row → listAfter b out ≡ out

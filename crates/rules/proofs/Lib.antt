@@ -42,5 +42,6 @@ pub mod Bounds
 -- Demand 3.
 pub mod Demand3
 -- What the operations answer.
+pub mod FileNumbers
 pub mod Answers
 pub mod NoPositions

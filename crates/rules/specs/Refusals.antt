@@ -17,12 +17,13 @@ use Rattle.rules.specs.declared.PositionRead.{PositionRead}
 use Rattle.rules.specs.declared.PositionRead.the-variants.{Read, Unreadable}
 use Rattle.rules.specs.declared.PositionRow.{PositionRow}
 use Rattle.rules.specs.declared.Refusal.{Refusal}
-use Rattle.rules.specs.declared.Refusal.the-variants.{FileSize, Trailer, Distance, SeriesRange, SeriesType, PositionTerms, PositionRange, LimiterPrice, BarrierPrice, BarrierSide, ListTooShort, RowAskedFor}
+use Rattle.rules.specs.declared.Refusal.the-variants.{FileSize, Trailer, Distance, SeriesRange, SeriesType, PositionTerms, PositionRange, LimiterPrice, BarrierPrice, BarrierSide, ListTooShort, RowAskedFor, FactorsAskedFor}
 use Rattle.rules.specs.declared.SeriesRow.{SeriesRow}
 
 -- The table's column "Number". Refusals 1 to 11 are a file's and tested here; 12 is tested in `Lines.marginForList`, for
 -- the caller's list, and 13 in `OnePosition.amountForRow`, for the row asked for, each after the file. Document 02, request
--- 1: "Refusal 3 is withdrawn." Its number is given to nothing else.
+-- 1: "Refusal 3 is withdrawn." Its number is given to nothing else. Request 2's 14 is no file's: it is tested in `FactorsAre`
+-- of crate factors.
 abbrev pub number : Refusal → ℕ
 number FileSize = 1
 number Trailer = 2
@@ -36,6 +37,7 @@ number BarrierPrice = 10
 number BarrierSide = 11
 number ListTooShort = 12
 number RowAskedFor = 13
+number FactorsAskedFor = 14
 
 -- x is not from least to most.
 abbrev pub outside : ℕ → ℕ → ℕ → Bool

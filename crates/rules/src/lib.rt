@@ -124,8 +124,8 @@ pub struct Layout {
     pub width: usize,
 }
 
-// Why a file or a call is turned back, in the order of document 01's table. Its 3, for a file without positions, is withdrawn
-// (document 02, request 1).
+// Why a file or a call is turned back, in the order of document 01's table and then of document 02's requests. Document 01's
+// 3, for a file without positions, is withdrawn (document 02, request 1).
 pub enum Refusal {
     FileSize,
     Trailer,
@@ -139,6 +139,7 @@ pub enum Refusal {
     BarrierSide,
     ListTooShort,
     RowAskedFor,
+    FactorsAskedFor,
 }
 
 // What a row's checks find.
