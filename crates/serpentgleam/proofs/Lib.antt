@@ -3,3 +3,4 @@ pub mod Calls
 pub mod Settling
 -- What a C program is told.
 pub mod AnswerNumbers
+pub mod FactorAnswers

@@ -1,2 +1,3 @@
 -- What a C program is told.
 pub mod MarginNumbers
+pub mod FactorNumbers

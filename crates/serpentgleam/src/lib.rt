@@ -1,5 +1,7 @@
 // The operations offered outside, as a C program calls them. `rt staticlib serpentgleam` writes the archive that a client
 // links; the header is include/serpentgleam.h.
+use factors::FactorsAnswer;
+use factors::factors;
 use lent::write_entries;
 use lines::MOST_NUMBERS;
 use lines_and_total::line_count;
@@ -15,6 +17,7 @@ ghost use lib.ListN.{length};
 ghost use mathlib.Core.Path.{_≡_};
 ghost use Rattle.rules.specs.Lines.{listAfter, marginAnswer, premiumAnswer};
 ghost use Rattle.rules.specs.OnePosition.{amountAnswer, signedAnswer};
+ghost use Rattle.serpentgleam.specs.FactorNumbers.{FactorsTold, factorNumbers};
 ghost use Rattle.serpentgleam.specs.MarginNumbers.{answerNumbers, marginNumbers};
 
 // A file's margin as numbers, the header's `serpentgleam_result`: 0, 0, the line count and the total in centavos; or the
@@ -72,6 +75,35 @@ fn answer_of(answer: AmountAnswer) -> Answer
     }
 }
 
+// Factors as numbers, the header's `serpentgleam_factors`: 0, 0, fa and fb in millionths; or the refusal's number, its row,
+// 0 and 0.
+#[repr(C)]
+pub struct FactorNumbers {
+    pub refusal: u64,
+    pub row: u64,
+    pub fa: u64,
+    pub fb: u64,
+}
+
+fn factor_numbers(answer: FactorsAnswer) -> FactorNumbers
+    ensures { λ r. ⌜ r ≡ factorNumbers answer ⌝ }
+{
+    match answer {
+        FactorsAnswer::Factors(fa, fb) => FactorNumbers {
+            refusal: 0,
+            row: 0,
+            fa,
+            fb,
+        },
+        FactorsAnswer::NoFactors(why, row) => FactorNumbers {
+            refusal: refusal_number(why) as u64,
+            row: row as u64,
+            fa: 0,
+            fb: 0,
+        },
+    }
+}
+
 // A file's margin, and its lines in the caller's list.
 #[no_mangle]
 pub extern "C" fn serpentgleam_margin(file: &[u8], lines: &mut [Line]) -> Margin
@@ -100,4 +132,12 @@ pub extern "C" fn serpentgleam_premiums(file: &[u8]) -> Answer
     ensures { λ r. ⌜ r ≡ answerNumbers (premiumAnswer (now (file .entry))) ⌝ }
 {
     answer_of(premium_answer(file))
+}
+
+// fa and fb of a code, 0 to 3, and a number of days, 0 to 1,800, or the refusal. Any two numbers may be handed over.
+#[no_mangle]
+pub extern "C" fn serpentgleam_factors(code: u64, days: u64) -> FactorNumbers
+    ensures { λ r. ⌜ FactorsTold code days r ⌝ }
+{
+    factor_numbers(factors(code, days))
 }
