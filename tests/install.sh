@@ -33,6 +33,14 @@ left_in() {
     find "$1" ! -type d -o -name '*serpentgleam*'
 }
 
+# What the client prints of factors, whatever the account.
+factors='factors 1863083 1085366, refusal 0, row 0
+factors 4102929 637796, refusal 0, row 0
+factors 0 0, refusal 14, row 0
+factors 0 0, refusal 14, row 0
+factors 0 0, refusal 14, row 0
+14: there are no factors of the code and days asked for: code not 0 to 3, or days above 1,800'
+
 version=$(sed -n 's/^#define SERPENTGLEAM_VERSION "\(.*\)"$/\1/p' include/serpentgleam.h)
 
 # The shared object follows the archive, also to one that is not newer.
@@ -77,6 +85,7 @@ total 10800, refusal 0
 amount 25000
 no list: refusal 12, row 0, lines 0, total 0
 refused 1 0: the file has fewer than 12 or more than 65,536 bytes
+$factors
 3: there is no refusal of this number
 EXPECTED
         LD_LIBRARY_PATH=$prefix/lib ./client "$top/examples/no_positions.account" > client.out
@@ -88,6 +97,7 @@ total 0, refusal 0
 amount -13
 no list: refusal 0, row 0, lines 0, total 0
 refused 1 0: the file has fewer than 12 or more than 65,536 bytes
+$factors
 3: there is no refusal of this number
 EXPECTED
     done
@@ -97,6 +107,8 @@ cp "$top/examples/document.account" .
 "$prefix/bin/serpentgleam" margin document.account > command.out 2> command.err
 printf 'document.account\t%s\n' 'pair 0 2 3 0' 'pair 0 1 4 3000' 'left 0 3 7500' 'premium 300' 'total 10800' |
     same command.out 'the installed command'
+"$prefix/bin/serpentgleam" factors FCI 720 > command.out
+echo '1863083 1085366' | same command.out 'the installed command'
 "$prefix/bin/serpentgleam" --version > command.out
 echo "serpentgleam $version" | same command.out 'the installed command'
 PYTHONPATH=$prefix/share/serpentgleam \

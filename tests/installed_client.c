@@ -1,8 +1,8 @@
 /*
  * A small program for an installation to be tried with, as C and as C++: installed_client FILE prints the version, the
  * lines, premiums and total of the account file and its first row's amount, how many entries after the lines have kept
- * their content, and the answer where the list is NULL and has no entries; then the refusal of a file without bytes, and
- * what is said of the number 3, which no refusal has.
+ * their content, and the answer where the list is NULL and has no entries; then the refusal of a file without bytes,
+ * factors that are there and factors that are not, and what is said of the number 3, which no refusal has.
  */
 #include <serpentgleam.h>
 
@@ -23,6 +23,27 @@ static int kept_after(uint64_t count)
     for (i = count; i < SERPENTGLEAM_MOST_LINES; i++)
         kept += memcmp(&lines[i], &before[i], sizeof lines[i]) == 0;
     return kept;
+}
+
+/* Prints the answer for a code and days. */
+static void print_factors(uint64_t code, uint64_t days)
+{
+    struct serpentgleam_factors factors = serpentgleam_factors(code, days);
+
+    printf("factors %" PRIu64 " %" PRIu64 ", refusal %" PRIu64 ", row %" PRIu64 "\n", factors.fa, factors.fb,
+           factors.refusal, factors.row);
+}
+
+/* Prints the answers for codes and days that have factors and that have none, and the sentence of the refusal. */
+static void print_all_factors(void)
+{
+    print_factors(SERPENTGLEAM_FCI, 720);
+    print_factors(SERPENTGLEAM_OFV, SERPENTGLEAM_MOST_DAYS);
+    print_factors(SERPENTGLEAM_OFV, SERPENTGLEAM_MOST_DAYS + 1);
+    print_factors(SERPENTGLEAM_OFV + 1, 0);
+    print_factors(UINT64_MAX, UINT64_MAX);
+    printf("%d: %s\n", SERPENTGLEAM_REFUSED_FACTORS_ASKED_FOR,
+           serpentgleam_refusal_sentence(SERPENTGLEAM_REFUSED_FACTORS_ASKED_FOR));
 }
 
 int main(int count, char **words)
@@ -56,6 +77,7 @@ int main(int count, char **words)
     premiums = serpentgleam_premiums(NULL, 0);
     printf("refused %" PRIu64 " %" PRIu64 ": %s\n", premiums.refusal, premiums.row,
            serpentgleam_refusal_sentence(premiums.refusal));
+    print_all_factors();
     printf("3: %s\n", serpentgleam_refusal_sentence(3));
     return 0;
 }

@@ -1,18 +1,22 @@
 #!/usr/bin/env python3
-"""Puts misreadings of documents 01 and 02 into copies of the reference one by one, and counts the accounts that notice.
+"""Puts misreadings of documents 01 and 02 into copies of the reference one by one, and counts what notices.
 
 The tables stand in the files misread_*.py beside this one. A misreading there is a name, what is misread, and a list of
 changes: a file below reference/src, a text that stands in it exactly once, and the text put in its place. Each changed
 copy margins the reference's vectors (the accounts in crates/margin_batch/stdin); an account notices where its output is
-not that of crates/margin_batch/stdout.
+not that of crates/margin_batch/stdout. With a misreading of the factors it prints the list of all factors; a line
+notices where it is not that of crates/factors_list/stdout.
 
-Needs cargo. Prints a table in markdown, then a summary. Exit status 1 where a misreading is noticed by no account.
+Needs cargo. Prints two tables in markdown, each with a summary. Exit status 1 where a misreading is noticed by no
+account, or by no line.
 """
 import os
 import subprocess
 import sys
 import tempfile
+from collections import namedtuple
 
+import misread_factors
 import misread_file
 import misread_no_positions
 import misread_order
@@ -23,15 +27,27 @@ from top import path
 
 from account_batch import answers_of, vector_bytes
 
-PROGRAM = 'margin_reference_batch'
-MODULES = ['account', 'lines', 'output', 'pairing', 'position', 'position_row', 'reader', 'spread']
+# What notices, a program of the reference, its input, its output as a list of what can notice, and the misreadings.
+Noticing = namedtuple('Noticing', 'what program given parts_of expected tables')
+
+MODULES = ['account', 'factors', 'factors_list', 'lines', 'output', 'pairing', 'position', 'position_row', 'reader',
+           'spread']
 TABLES = [misread_positions, misread_spreads, misread_pairs, misread_file, misread_no_positions, misread_order]
 
 
-def sources():
-    """What the batch program needs of the reference: text by name."""
+def by_accounts():
+    return Noticing('account', 'margin_reference_batch', vector_bytes('stdin'), answers_of, vector_bytes('stdout'), TABLES)
+
+
+def by_lines_of_factors():
+    with open(path('crates', 'factors_list', 'stdout'), 'rb') as file:
+        return Noticing('line', 'factors_list', b'', bytes.splitlines, file.read(), [misread_factors])
+
+
+def sources(program):
+    """What the program needs of the reference: text by name."""
     texts = {'src/lib.rs': ''.join(f'pub mod {module};\n' for module in MODULES)}
-    for name in ['Cargo.toml', f'src/bin/{PROGRAM}.rs'] + [f'src/{module}.rs' for module in MODULES]:
+    for name in ['Cargo.toml', f'src/bin/{program}.rs'] + [f'src/{module}.rs' for module in MODULES]:
         with open(path('reference', name)) as file:
             texts[name] = file.read()
     return texts
@@ -55,41 +71,44 @@ def write(texts, folder):
             file.write(text)
 
 
-def built(folder):
-    """The batch program of the copy in this folder."""
+def built(folder, program):
+    """The program of the copy in this folder."""
     target = os.path.join(folder, 'target')
-    command = ['cargo', 'build', '--release', '--quiet', '--bin', PROGRAM, '--target-dir', target]
+    command = ['cargo', 'build', '--release', '--quiet', '--bin', program, '--target-dir', target]
     build = subprocess.run(command, cwd=folder, capture_output=True, text=True)
     if build.returncode != 0:
         raise SystemExit(build.stderr)
-    return os.path.join(target, 'release', PROGRAM)
+    return os.path.join(target, 'release', program)
 
 
-def outputs(program):
-    """Each account's output, in the order of the vectors."""
-    run = subprocess.run([program], input=vector_bytes('stdin'), capture_output=True, check=True, timeout=300)
-    return answers_of(run.stdout)
-
-
-def accounts_that_notice(texts, changes):
-    expected = answers_of(vector_bytes('stdout'))
+def count_that_notice(noticing, texts, changes):
+    """How many accounts, or lines, have another output than expected."""
     with tempfile.TemporaryDirectory() as folder:
         write(changed(texts, changes), folder)
-        found = outputs(built(folder))
+        program = built(folder, noticing.program)
+        run = subprocess.run([program], input=noticing.given, capture_output=True, check=True, timeout=300)
+    expected, found = noticing.parts_of(noticing.expected), noticing.parts_of(run.stdout)
     return sum(one != other for one, other in zip(expected, found, strict=True))
 
 
+def print_table(noticing):
+    """Prints the misreadings and how many notice each; says whether each is noticed."""
+    what, texts, counts = noticing.what, sources(noticing.program), []
+    if count_that_notice(noticing, texts, []) != 0:
+        raise SystemExit(f'{noticing.program} of the reference itself does not give what is expected')
+    print(f'| Name | What is misread | {what.capitalize()}s that notice |\n|---|---|---|')
+    for name, misread, changes in [misreading for table in noticing.tables for misreading in table.TABLE]:
+        counts.append(count_that_notice(noticing, texts, changes))
+        print(f'| {name} | {misread} | {counts[-1]} |', flush=True)
+    print(f'\n{len(counts)} misreadings, {counts.count(0)} noticed by no {what}, the fewest noticed by {min(counts)}')
+    return 0 not in counts
+
+
 def main():
-    misreadings = [misreading for table in TABLES for misreading in table.TABLE]
-    texts, counts = sources(), []
-    if accounts_that_notice(texts, []) != 0:
-        raise SystemExit('the reference itself does not give the vectors')
-    print('| Name | What is misread | Accounts that notice |\n|---|---|---|')
-    for name, what, changes in misreadings:
-        counts.append(accounts_that_notice(texts, changes))
-        print(f'| {name} | {what} | {counts[-1]} |', flush=True)
-    print(f'\n{len(counts)} misreadings, {counts.count(0)} noticed by no account, the fewest noticed by {min(counts)}')
-    return 1 if 0 in counts else 0
+    noticed = [print_table(by_accounts())]
+    print()
+    noticed.append(print_table(by_lines_of_factors()))
+    return 0 if all(noticed) else 1
 
 
 if __name__ == '__main__':

@@ -5,8 +5,10 @@ mod timing;
 
 use std::hint::black_box;
 
+use bench::factors::Tables;
 use bench::shapes::{account, Shape, SHAPES};
 use bench::ways::{lanes, repeated_search, tournament};
+use reference::factors::Factors;
 use reference::lines::{margin_into_by, Entry};
 use reference::position::one_position;
 use reference::reader::Refusal;
@@ -16,6 +18,7 @@ use timing::measure;
 type Answer = Result<(usize, i64), Refusal>;
 type Program = fn(&[u8], &mut [Entry]) -> Answer;
 type PositionProgram = fn(&[u8], u64) -> i64;
+type FactorsProgram<'a> = &'a dyn Fn(u64, u64) -> Result<Factors, Refusal>;
 
 const PROGRAMS: [Program; 4] = [
     engine,
@@ -25,6 +28,8 @@ const PROGRAMS: [Program; 4] = [
 ];
 const POSITION_PROGRAMS: [PositionProgram; 2] = [library::position_amount, one_position];
 const SIZES: [u32; 5] = [16, 32, 64, 128, 256];
+/// Calls in one measurement of the factors, the codes in turn: one call can be shorter than a look at the clock.
+const CALLS: usize = 100;
 
 fn engine(file: &[u8], list: &mut [Entry]) -> Answer {
     let margin = library::margin(file, list);
@@ -112,10 +117,40 @@ fn position_table(rounds: usize) {
     }
 }
 
+fn engine_factors(code: u64, days: u64) -> Result<Factors, Refusal> {
+    let factors = library::factors(code, days);
+    match factors.refusal {
+        0 => Ok(Factors { fa: factors.fa as i64, fb: factors.fb as i64 }),
+        number => Err(Refusal { number: number as i64, row: factors.row as usize }),
+    }
+}
+
+fn factors_table(rounds: usize) {
+    println!("\n### The factors of a code and a number of days\n");
+    println!("| days | engine | Rust loop | engine / Rust |");
+    println!("|---|---|---|---|");
+    let tables = Tables::default();
+    let rust_loop = |code: u64, days: u64| tables.factors(code, days);
+    let programs: [FactorsProgram; 2] = [&engine_factors, &rust_loop];
+    for days in [0, 90, 360, 1_800] {
+        assert!((0..4).all(|code| engine_factors(code, days) == rust_loop(code, days)));
+        let [engine, rust] = &programs.map(|program| {
+            move || {
+                for code in (0..4).cycle().take(CALLS) {
+                    black_box(program(black_box(code), black_box(days))).ok();
+                }
+            }
+        });
+        let [engine, rust] = measure(rounds, [engine, rust]).map(|time| time / CALLS as f64);
+        println!("| {days} | {engine:.3} | {rust:.3} | {:.2} |", engine / rust);
+    }
+}
+
 fn main() {
     let rounds = std::env::args().nth(1).and_then(|word| word.parse().ok()).unwrap_or(30);
     println!("Microseconds a call, the best of {rounds} bursts of a millisecond each.");
     let engine: Vec<Vec<f64>> = SIZES.iter().map(|size| margin_table(rounds, *size)).collect();
     growth_table(&engine);
     position_table(rounds);
+    factors_table(rounds);
 }

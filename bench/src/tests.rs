@@ -1,9 +1,12 @@
-//! Every way gives the lines and the total of the reference.
+//! Every way gives the lines and the total of the reference, and the tables its factors.
 
+use reference::factors::factors;
+use reference::factors_list::codes_and_days;
 use reference::lines::{margin_into, margin_into_by, Entry, Pairing};
 use reference::random::Random;
 use reference::sample::{sample_account, Shape};
 
+use crate::factors::Tables;
 use crate::shapes::{account, SHAPES};
 use crate::ways::{lanes, repeated_search, tournament};
 
@@ -59,5 +62,13 @@ fn on_random_accounts() {
         let files = (0..count).map(|_| sample_account(&mut random, &shape).bytes());
         let pairs: usize = files.map(|file| pairs_made(&file, name)).sum();
         assert!(pairs > count, "{name}: {pairs} pairs");
+    }
+}
+
+#[test]
+fn factors_from_tables() {
+    let tables = Tables::default();
+    for (code, days) in codes_and_days() {
+        assert_eq!(tables.factors(code, days), factors(code, days), "{code} {days}");
     }
 }

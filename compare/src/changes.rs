@@ -1,6 +1,6 @@
 //! Deliberately changed answers, to see that the comparison finds them.
 
-use crate::implementation::{Answer, Implementation, Line, Margin};
+use crate::implementation::{Answer, Factors, Implementation, Line, Margin};
 
 #[derive(Clone, Copy, Debug, PartialEq, Eq)]
 pub enum Change {
@@ -19,11 +19,18 @@ pub enum Change {
     NoRowsRefused,
     Premiums,
     PremiumsRefused,
+    Fa,
+    Fb,
+    FaOfOneDay,
+    Day1801,
+    CodeCut,
+    DaysCut,
+    FactorsOnRefusal,
     FileWritten,
     ReadingOutside,
 }
 
-pub const CHANGES: [(&str, Change); 17] = [
+pub const CHANGES: [(&str, Change); 24] = [
     ("total", Change::Total),
     ("line-count", Change::LineCount),
     ("line-amount", Change::LineAmount),
@@ -39,6 +46,13 @@ pub const CHANGES: [(&str, Change); 17] = [
     ("no-rows-refused", Change::NoRowsRefused),
     ("premiums", Change::Premiums),
     ("premiums-refused", Change::PremiumsRefused),
+    ("fa", Change::Fa),
+    ("fb", Change::Fb),
+    ("fa-of-one-day", Change::FaOfOneDay),
+    ("day-1801", Change::Day1801),
+    ("code-cut", Change::CodeCut),
+    ("days-cut", Change::DaysCut),
+    ("factors-on-refusal", Change::FactorsOnRefusal),
     ("file-written", Change::FileWritten),
     ("reading-outside", Change::ReadingOutside),
 ];
@@ -89,6 +103,25 @@ impl Implementation for Changed<'_> {
             Change::Premiums if answer.value > 0 => Answer { value: answer.value - 1, ..answer },
             Change::PremiumsRefused => Answer { refusal: 0, ..answer },
             _ => answer,
+        }
+    }
+
+    fn factors(&self, code: u64, days: u64) -> Factors {
+        let low_half = |number: u64| number % (1 << 32);
+        let factors = match self.change {
+            Change::CodeCut => self.of.factors(low_half(code), days),
+            Change::DaysCut => self.of.factors(code, low_half(days)),
+            Change::Day1801 if days == 1_801 => self.of.factors(code, 1_800),
+            _ => self.of.factors(code, days),
+        };
+        match self.change {
+            Change::Fa if factors.fa > 0 => Factors { fa: factors.fa + 1, ..factors },
+            Change::Fb if factors.fb > 0 => Factors { fb: factors.fb - 1, ..factors },
+            Change::FaOfOneDay if (code, days) == (2, 1_234) => {
+                Factors { fa: factors.fa + 1, ..factors }
+            }
+            Change::FactorsOnRefusal if factors.refusal > 0 => Factors { fa: 1, ..factors },
+            _ => factors,
         }
     }
 }

@@ -1,11 +1,12 @@
-//! Both answers to each question about a file.
+//! Both answers to each question about a file, and to each one for the factors.
 
 use std::fmt;
 
 use reference::reader::read_account;
 
+use crate::codes_and_days::expectation;
 use crate::files::File;
-use crate::implementation::{self, Implementation, Line, Margin};
+use crate::implementation::{self, Factors, Implementation, Line, Margin};
 use crate::lending::Lending;
 use crate::questions::{questions, Question};
 use crate::summary::Summary;
@@ -19,6 +20,7 @@ pub enum Answer {
     Margin(Margin, Vec<Line>),
     Amount(i64),
     Premiums(implementation::Answer),
+    Factors(Factors),
 }
 
 #[derive(Clone, Debug, PartialEq, Eq)]
@@ -42,11 +44,7 @@ pub fn compare_file(
         turn += 1;
         let copy = copies[turn % 2];
         let expected = answer(reference, &file.bytes, question);
-        let found = answer(library, copy, question);
-        if found != expected {
-            let difference = Difference::Answers { question, reference: expected, library: found };
-            return Err(Box::new(difference));
-        }
+        same(question, &expected, answer(library, copy, question))?;
         if copy != file.bytes {
             return Err(Box::new(Difference::FileWrittenTo { question }));
         }
@@ -54,6 +52,28 @@ pub fn compare_file(
     }
     summary.add_file(file, position_count);
     Ok(())
+}
+
+/// The same for one code and number of days.
+pub fn compare_factors(
+    (code, days): (u64, u64),
+    reference: &dyn Implementation,
+    library: &dyn Implementation,
+    summary: &mut Summary,
+) -> Result<(), Box<Difference>> {
+    let question = Question::Factors { code, days };
+    let expected = answer(reference, &[], question);
+    same(question, &expected, answer(library, &[], question))?;
+    summary.add_answer(&expected, expectation(code, days));
+    Ok(())
+}
+
+fn same(question: Question, expected: &Answer, found: Answer) -> Result<(), Box<Difference>> {
+    if found == *expected {
+        return Ok(());
+    }
+    let reference = expected.clone();
+    Err(Box::new(Difference::Answers { question, reference, library: found }))
 }
 
 fn answer(implementation: &dyn Implementation, file: &[u8], question: Question) -> Answer {
@@ -65,6 +85,7 @@ fn answer(implementation: &dyn Implementation, file: &[u8], question: Question) 
         }
         Question::Amount { row } => Answer::Amount(implementation.position_amount(file, row)),
         Question::Premiums => Answer::Premiums(implementation.premiums(file)),
+        Question::Factors { code, days } => Answer::Factors(implementation.factors(code, days)),
     }
 }
 
@@ -95,6 +116,7 @@ fn first_part(answer: &Answer) -> String {
         Answer::Margin(margin, _) => format!("{margin:?}"),
         Answer::Amount(amount) => format!("{amount}"),
         Answer::Premiums(premiums) => format!("{premiums:?}"),
+        Answer::Factors(factors) => format!("{factors:?}"),
     }
 }
 

@@ -16,8 +16,9 @@ extern "C" {
 static FILE: AtomicPtr<File> = AtomicPtr::new(null_mut());
 
 /// The file to report where a fault comes before the next one is named. It must live that long.
-pub fn asking_about(file: &File) {
-    FILE.store((file as *const File).cast_mut(), Ordering::SeqCst);
+pub fn asking_about(file: Option<&File>) {
+    let file = file.map_or(null_mut(), |file| (file as *const File).cast_mut());
+    FILE.store(file, Ordering::SeqCst);
 }
 
 pub fn report_faults() {
@@ -31,8 +32,7 @@ pub fn report_faults() {
 /// The library takes no memory and holds no lock, so that the report can be made from here.
 extern "C" fn on_fault(_number: c_int) {
     // SAFETY: null, or a file that lives while it is asked about.
-    if let Some(file) = unsafe { FILE.load(Ordering::SeqCst).as_ref() } {
-        crate::report(file, "the library read or wrote memory that was not lent to it");
-    }
+    let file = unsafe { FILE.load(Ordering::SeqCst).as_ref() };
+    crate::report(file, "the library read or wrote memory that was not lent to it");
     std::process::exit(1);
 }

@@ -1,6 +1,7 @@
 //! What both implementations are asked through, in the form of the C header.
 
-pub use library::{Answer, Line, Margin};
+pub use library::{Answer, Factors, Line, Margin};
+use reference::factors::factors;
 use reference::lines::{margin_into, premiums};
 use reference::position::one_position;
 
@@ -11,6 +12,8 @@ pub trait Implementation {
     fn position_amount(&self, file: &[u8], row: u64) -> i64;
 
     fn premiums(&self, file: &[u8]) -> Answer;
+
+    fn factors(&self, code: u64, days: u64) -> Factors;
 }
 
 pub struct Reference;
@@ -39,6 +42,15 @@ impl Implementation for Reference {
             Ok(value) => Answer { refusal: 0, row: 0, value: value as u64 },
             Err(refusal) => {
                 Answer { refusal: refusal.number as u64, row: refusal.row as u64, value: 0 }
+            }
+        }
+    }
+
+    fn factors(&self, code: u64, days: u64) -> Factors {
+        match factors(code, days) {
+            Ok(given) => Factors { refusal: 0, row: 0, fa: given.fa as u64, fb: given.fb as u64 },
+            Err(refusal) => {
+                Factors { refusal: refusal.number as u64, row: refusal.row as u64, fa: 0, fb: 0 }
             }
         }
     }

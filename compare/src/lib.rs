@@ -1,4 +1,4 @@
-//! Comparison of the library with the reference, on files made from a seed.
+//! Comparison of the library with the reference, on files made from a seed, and of all factors.
 //!
 //! Reading order:
 //!
@@ -6,12 +6,14 @@
 //! 2. [`random_files`], [`structured`], [`damage`]: the families
 //! 3. [`implementation`]: what both implementations are asked through
 //! 4. [`questions`]: what is asked about a file
-//! 5. [`lending`]: the memory in which the library gets a file
-//! 6. [`comparison`]: both answers to each question about a file
-//! 7. [`summary`]: what was compared
-//! 8. [`changes`]: deliberately changed answers, to see that they are found
+//! 5. [`codes_and_days`]: what the factors are asked for
+//! 6. [`lending`]: the memory in which the library gets a file
+//! 7. [`comparison`]: both answers to each question
+//! 8. [`summary`]: what was compared
+//! 9. [`changes`]: deliberately changed answers, to see that they are found
 
 pub mod changes;
+pub mod codes_and_days;
 pub mod comparison;
 pub mod damage;
 pub mod files;

@@ -1,6 +1,6 @@
 //! The library that the program is linked with.
 
-use compare::implementation::{Answer, Implementation, Line, Margin};
+use compare::implementation::{Answer, Factors, Implementation, Line, Margin};
 
 pub struct Library;
 
@@ -15,5 +15,9 @@ impl Implementation for Library {
 
     fn premiums(&self, file: &[u8]) -> Answer {
         library::premiums(file)
+    }
+
+    fn factors(&self, code: u64, days: u64) -> Factors {
+        library::factors(code, days)
     }
 }

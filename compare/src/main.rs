@@ -1,5 +1,6 @@
-//! `compare [SECONDS] [SEED] [files=NUMBER] [change=NAME]` compares the library with the reference
-//! until the time is over or so many files are compared, and stops at the first difference.
+//! `compare [SECONDS] [SEED] [files=NUMBER] [change=NAME]` compares the library with the reference,
+//! all factors first and then files until the time is over or so many are compared, and stops at the
+//! first difference.
 
 mod fault;
 mod linked;
@@ -8,7 +9,8 @@ use std::process::ExitCode;
 use std::time::{Duration, Instant};
 
 use compare::changes::{Change, Changed, CHANGES};
-use compare::comparison::{compare_file, Difference};
+use compare::codes_and_days::{asked_once, drawn};
+use compare::comparison::{compare_factors, compare_file, Difference};
 use compare::files::{file, File};
 use compare::implementation::{Implementation, Reference};
 use compare::lending::Lending;
@@ -31,14 +33,14 @@ fn main() -> ExitCode {
     };
     fault::report_faults();
     let start = Instant::now();
-    match compare_files(&request, start) {
+    match compare_all(&request, start) {
         Ok(summary) => {
             println!("seed {}, {} seconds", request.seed, start.elapsed().as_secs());
             println!("{summary}");
             ExitCode::SUCCESS
         }
         Err((file, difference)) => {
-            report(&file, &difference.to_string());
+            report(file.as_ref(), &difference.to_string());
             ExitCode::FAILURE
         }
     }
@@ -62,7 +64,10 @@ fn request_of(words: impl Iterator<Item = String>) -> Option<Request> {
     Some(Request { seconds, seed, files, change })
 }
 
-fn compare_files(request: &Request, start: Instant) -> Result<Summary, (File, Box<Difference>)> {
+/// A difference, and the file where it is about one.
+type Found = (Option<File>, Box<Difference>);
+
+fn compare_all(request: &Request, start: Instant) -> Result<Summary, Found> {
     let changed;
     let library: &dyn Implementation = match request.change {
         None => &Library,
@@ -73,19 +78,32 @@ fn compare_files(request: &Request, start: Instant) -> Result<Summary, (File, Bo
     };
     let mut lending = Lending::new();
     let mut summary = Summary::default();
+    let about_factors = |code_and_days, summary: &mut Summary| {
+        fault::asking_about(None);
+        compare_factors(code_and_days, &Reference, library, summary)
+            .map_err(|difference| (None, difference))
+    };
+    for code_and_days in asked_once() {
+        about_factors(code_and_days, &mut summary)?;
+    }
     while start.elapsed() < Duration::from_secs(request.seconds) && summary.files < request.files {
         let file = file(request.seed, summary.files);
-        fault::asking_about(&file);
+        fault::asking_about(Some(&file));
         let compared = compare_file(&file, &Reference, library, &mut lending, &mut summary);
         if let Err(difference) = compared {
-            return Err((file, difference));
+            return Err((Some(file), difference));
         }
+        about_factors(drawn(request.seed, file.number), &mut summary)?;
     }
     Ok(summary)
 }
 
 /// Says what is different, and writes the file to `difference.account` in the current folder.
-fn report(file: &File, difference: &str) {
+fn report(file: Option<&File>, difference: &str) {
+    let Some(file) = file else {
+        println!("the factors\n{difference}");
+        return;
+    };
     println!("file {}, {}: {}", file.number, file.family.name(), file.kinds.join(", "));
     println!("{difference}");
     let path = std::env::current_dir().unwrap_or_default().join("difference.account");

@@ -1,4 +1,4 @@
-//! What is asked about a file.
+//! What is asked: about a file, or for the factors.
 
 use reference::random::Random;
 
@@ -10,6 +10,8 @@ pub enum Question {
     Amount { row: u64 },
     /// The premiums of all held rows.
     Premiums,
+    /// The factors, about no file.
+    Factors { code: u64, days: u64 },
 }
 
 /// A question, and what it is asked for.
@@ -18,7 +20,7 @@ pub type Purpose = (Question, &'static str);
 /// All rows are asked for, and both large enough lists are tried, up to this many rows.
 const FEW_ROWS: usize = 12;
 
-/// The position count is given where the file is accepted.
+/// What is asked about a file. The position count is given where the file is accepted.
 pub fn questions(seed: u64, position_count: Option<usize>) -> Vec<Purpose> {
     let mut random = Random::new(seed);
     let mut asked = match position_count {

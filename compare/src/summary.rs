@@ -27,6 +27,7 @@ pub struct Summary {
     margin_calls: Tally,
     amount_calls: Tally,
     premium_calls: u64,
+    factors_calls: Tally,
     lines: u64,
     entries_kept: u64,
 }
@@ -66,6 +67,7 @@ impl Summary {
         match answer {
             Answer::Amount(_) => self.amount_calls.add(purpose),
             Answer::Premiums(_) => self.premium_calls += 1,
+            Answer::Factors(_) => self.factors_calls.add(purpose),
             Answer::Margin(margin, entries) => {
                 self.margin_calls.add(purpose);
                 self.lines += margin.lines;
@@ -107,6 +109,8 @@ impl fmt::Display for Summary {
         let calls = self.amount_calls.total();
         writeln!(out, "serpentgleam_position_amount: {calls} calls: {}", self.amount_calls)?;
         writeln!(out, "serpentgleam_premiums: {} calls", self.premium_calls)?;
+        let calls = self.factors_calls.total();
+        writeln!(out, "serpentgleam_factors: {calls} calls: {}", self.factors_calls)?;
         write!(out, "{} files, 0 differences", self.files)
     }
 }

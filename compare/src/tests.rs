@@ -7,7 +7,8 @@ use reference::lines::margin;
 use reference::reader::{distance, read_account};
 
 use crate::changes::{Change, Changed, CHANGES};
-use crate::comparison::{compare_file, Difference};
+use crate::codes_and_days::{asked_once, drawn, expectation};
+use crate::comparison::{compare_factors, compare_file, Difference};
 use crate::files::{file, Family, File, LONGEST_FILE};
 use crate::implementation::{Implementation, Reference};
 use crate::lending::Lending;
@@ -151,13 +152,51 @@ fn damaged_files_are_accepted_or_refused_with_every_number() {
     assert_eq!(counts, (1..=4).collect());
 }
 
-/// Compares the reference with the other implementation on the first files.
+#[test]
+fn all_factors_are_asked_for_once() {
+    let asked: Vec<(u64, u64)> = asked_once().collect();
+    let given = asked.iter().filter(|(code, days)| expectation(*code, *days) == "given").count();
+    let different: BTreeSet<&(u64, u64)> = asked.iter().collect();
+    assert_eq!((given, different.len()), (4 * 1_801, asked.len()));
+    for code in (0..=5).chain([256, 65_536, 1 << 32, (1 << 32) + 1, (1 << 32) + 2, u64::MAX]) {
+        for days in [1_801, 1_802, 1 << 32, 1 << 63, u64::MAX] {
+            assert!(different.contains(&(code, days)), "{code} {days}");
+        }
+        assert!(different.contains(&(code, 0)) && different.contains(&(code, 1_800)), "{code}");
+    }
+}
+
+#[test]
+fn codes_and_days_drawn_are_various() {
+    let all: Vec<(u64, u64)> = (0..30_000).map(|number| drawn(SEED, number)).collect();
+    let count = |name| all.iter().filter(|(code, days)| expectation(*code, *days) == name).count();
+    for name in ["given", "refused, code", "refused, days", "refused, both"] {
+        assert!(count(name) > 1_000, "{name}: {}", count(name));
+    }
+    let codes: BTreeSet<u64> = all.iter().map(|(code, _)| *code).collect();
+    let days: BTreeSet<u64> = all.iter().map(|(_, days)| *days).collect();
+    assert!((0..=20).all(|code| codes.contains(&code)));
+    assert!((1_790..=1_820).all(|day| days.contains(&day)));
+    // A code or days in the low bits, and one bit above them.
+    for bit in 11..64 {
+        assert!((0..4).any(|code| codes.contains(&(code + (1 << bit)))), "{bit}");
+        assert!((0..=1_800).any(|day| days.contains(&(day + (1 << bit)))), "{bit}");
+    }
+    let of_other_seed = (0..100).filter(|n| drawn(SEED + 1, *n) == all[*n as usize]);
+    assert!(of_other_seed.count() < 5);
+}
+
+/// Compares the reference with the other implementation on the first files, then on the factors.
 fn compared(other: &dyn Implementation, count: u64) -> Result<Summary, Box<Difference>> {
     let mut lending = Lending::new();
     let mut summary = Summary::default();
     for number in 0..count {
         let file = file(SEED, number);
         compare_file(&file, &Reference, other, &mut lending, &mut summary)?;
+        compare_factors(drawn(SEED, number), &Reference, other, &mut summary)?;
+    }
+    for code_and_days in asked_once() {
+        compare_factors(code_and_days, &Reference, other, &mut summary)?;
     }
     Ok(summary)
 }
@@ -166,7 +205,10 @@ fn compared(other: &dyn Implementation, count: u64) -> Result<Summary, Box<Diffe
 fn the_reference_does_not_differ_from_itself() {
     let summary = compared(&Reference, 3_000).expect("no difference");
     assert_eq!(summary.files, 3_000);
-    assert!(summary.to_string().ends_with("\n3000 files, 0 differences"));
+    let text = summary.to_string();
+    assert!(text.ends_with("\n3000 files, 0 differences"));
+    // 7,204 that are given, 170 that are not, and one with each file.
+    assert!(text.contains("\nserpentgleam_factors: 10374 calls: given: "));
 }
 
 #[test]

@@ -24,11 +24,22 @@ pub struct Answer {
     pub value: u64,
 }
 
+/// `struct serpentgleam_factors`.
+#[repr(C)]
+#[derive(Clone, Copy, Debug, PartialEq, Eq)]
+pub struct Factors {
+    pub refusal: u64,
+    pub row: u64,
+    pub fa: u64,
+    pub fb: u64,
+}
+
 extern "C" {
     fn serpentgleam_margin(file: *const u8, length: usize, lines: *mut Line, room: usize)
         -> Margin;
     fn serpentgleam_position_amount(file: *const u8, length: usize, row: u64) -> i64;
     fn serpentgleam_premiums(file: *const u8, length: usize) -> Answer;
+    fn serpentgleam_factors(code: u64, days: u64) -> Factors;
 }
 
 /// The file's margin, its lines in the list.
@@ -51,6 +62,13 @@ pub fn position_amount(file: &[u8], row: u64) -> i64 {
 pub fn premiums(file: &[u8]) -> Answer {
     // SAFETY: the file is as long as is said.
     unsafe { serpentgleam_premiums(start_of(file), file.len()) }
+}
+
+/// fa and fb of a code and a number of days.
+#[inline]
+pub fn factors(code: u64, days: u64) -> Factors {
+    // SAFETY: no memory is handed over.
+    unsafe { serpentgleam_factors(code, days) }
 }
 
 /// NULL for a file without bytes.

@@ -14,6 +14,8 @@
 //! 6. [`lines`]: lines and total
 //! 7. [`output`]: what the margin program prints
 //! 8. [`paths`]: paths and payments, as the document defines them
+//! 9. [`factors`]: fa and fb from the code and the days
+//! 10. [`factors_list`]: what the factors program prints
 //!
 //! Then the tools: [`random`] (numbers from a seed), [`draft`] (files from
 //! fields), [`sample`] (random accounts), [`brute_force`] (checks the four
@@ -21,6 +23,8 @@
 //! their expected output).
 
 pub mod account;
+pub mod factors;
+pub mod factors_list;
 pub mod lines;
 pub mod output;
 pub mod pairing;
