@@ -52,7 +52,7 @@ prefix:
 	esac
 
 # Those of python/tests that need nothing but the library.
-TESTED = test_header test_premiums test_module test_no_positions test_command test_output test_text \
+TESTED = test_header test_premiums test_module test_factors test_no_positions test_command test_output test_text \
     test_text_faults
 
 test: all

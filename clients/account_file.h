@@ -1,4 +1,4 @@
-/* An account file read whole into memory, as both clients do it. */
+/* An account file read whole into memory, as the clients that take one do it. */
 #ifndef ACCOUNT_FILE_H
 #define ACCOUNT_FILE_H
 

@@ -1,11 +1,11 @@
 #!/usr/bin/env bash
 # Builds the static library unless SERPENTGLEAM_LIBRARY names one, compiles the C clients with warnings as errors, runs
-# them on the example accounts and compares what they print with clients/expected.txt.
+# them on the example accounts and on codes and days, and compares what they print with clients/expected.txt.
 set -eu
 cd "$(dirname "$0")/.."
 bash library/prove.sh
 archive=${SERPENTGLEAM_LIBRARY:-target/staticlib/libserpentgleam.a}
-for client in limit_screen collateral_call; do
+for client in limit_screen collateral_call series_factors; do
     gcc -std=c11 -O2 -Wall -Wextra -Wpedantic -Werror -Iinclude -o "target/$client" "clients/$client.c" "$archive"
 done
 while read -r account row; do
@@ -16,5 +16,9 @@ for account in examples/*.account; do
     printf '%s\n' "${account#examples/}"
     target/collateral_call "$account" || true
 done >> target/clients.out
+while read -r code days; do
+    printf '%s %s: ' "$code" "$days"
+    target/series_factors "$code" "$days" || true
+done < clients/factor_questions.txt >> target/clients.out
 diff clients/expected.txt target/clients.out
 echo "clients: $(wc -l < clients/expected.txt) lines as expected"

@@ -5,8 +5,8 @@
  * `make install` with the archive or the shared object as `pkg-config --cflags --libs serpentgleam` says.
  *
  * The library has no state, takes no memory from a heap, starts no thread and calls nothing of the operating system: every
- * call may be made from any thread, and calls on different threads do not affect each other. A call needs about 34 KB of
- * stack.
+ * call may be made from any thread, and calls on different threads do not affect each other. A call that takes a file needs
+ * about 34 KB of stack or less, the one for factors about 8 KB.
  *
  * It reads the bytes handed over during the call alone, keeps no pointer to them and writes nothing to them; the caller
  * owns them before, during and after. The same holds of a list of lines, which it writes during the call alone and which
@@ -15,7 +15,7 @@
  * An account file has at most 65,536 bytes. Any bytes may be handed over: a file that is not in order is refused, and
  * nothing is read outside it. With length 0 the pointer may be NULL.
  *
- * A refusal is a number from 1 to 13, below with a name for each; serpentgleam_refusal_sentence gives its sentence. The
+ * A refusal is a number from 1 to 14, below with a name for each; serpentgleam_refusal_sentence gives its sentence. The
  * number 3 is not used: an account without positions is accepted, with no lines, premiums 0 and total 0.
  */
 #ifndef SERPENTGLEAM_H
@@ -25,9 +25,9 @@
 #include <stdint.h>
 
 /* The version of this header and of the library that it came with. */
-#define SERPENTGLEAM_VERSION "0.2.0"
+#define SERPENTGLEAM_VERSION "0.3.0"
 #define SERPENTGLEAM_VERSION_MAJOR 0
-#define SERPENTGLEAM_VERSION_MINOR 2
+#define SERPENTGLEAM_VERSION_MINOR 3
 #define SERPENTGLEAM_VERSION_PATCH 0
 
 /* Limits of every account: bytes of its file, series, positions, and lines of its margin. */
@@ -39,6 +39,13 @@
 /* The kinds of a line. */
 #define SERPENTGLEAM_PAIR 1
 #define SERPENTGLEAM_LEFT 2
+
+/* The codes of the circular's table of factors, and the most days to expiry that there are factors for. */
+#define SERPENTGLEAM_FCI 0
+#define SERPENTGLEAM_FPI 1
+#define SERPENTGLEAM_OFC 2
+#define SERPENTGLEAM_OFV 3
+#define SERPENTGLEAM_MOST_DAYS 1800
 
 /* The refusals. No refusal has the number 3: before version 0.2.0 an account without positions was refused with it. */
 #define SERPENTGLEAM_REFUSED_FILE_SIZE 1
@@ -53,6 +60,7 @@
 #define SERPENTGLEAM_REFUSED_BARRIER_SIDE 11
 #define SERPENTGLEAM_REFUSED_LIST_TOO_SHORT 12
 #define SERPENTGLEAM_REFUSED_ROW_ASKED_FOR 13
+#define SERPENTGLEAM_REFUSED_FACTORS_ASKED_FOR 14
 
 #ifdef __cplusplus
 extern "C" {
@@ -86,6 +94,8 @@ static inline const char *serpentgleam_refusal_sentence(uint64_t number)
         return "the list of lines has fewer entries than the account has positions";
     case SERPENTGLEAM_REFUSED_ROW_ASKED_FOR:
         return "there is no position row of the number asked for";
+    case SERPENTGLEAM_REFUSED_FACTORS_ASKED_FOR:
+        return "there are no factors of the code and days asked for: code not 0 to 3, or days above 1,800";
     default:
         return "there is no refusal of this number";
     }
@@ -160,6 +170,31 @@ struct serpentgleam_answer {
  * file, length: the account file's bytes.
  */
 struct serpentgleam_answer serpentgleam_premiums(const uint8_t *file, size_t length);
+
+/*
+ * The factors of a series. refusal is 0 where there are some: then fa is the high stress factor and fb the low one, both in
+ * millionths as a series row of an account file holds them, and row is 0. Otherwise refusal is the refusal's number, and
+ * row, fa and fb are 0.
+ */
+struct serpentgleam_factors {
+    uint64_t refusal;
+    uint64_t row;
+    uint64_t fa;
+    uint64_t fb;
+};
+
+/*
+ * The factors by the circular's row of a code, for so many days to expiry. Takes no file.
+ *
+ * code: SERPENTGLEAM_FCI, SERPENTGLEAM_FPI, SERPENTGLEAM_OFC or SERPENTGLEAM_OFV.
+ * days: calendar days to expiry, 0 to SERPENTGLEAM_MOST_DAYS.
+ *
+ * Any two numbers may be handed over: another code or more days are refused with SERPENTGLEAM_REFUSED_FACTORS_ASKED_FOR.
+ * fa is always 1,000,000 to 10,000,000 and fb at most fa, so that a series row with them is within its limits.
+ *
+ * The call and its struct share a name: in C++ too the type is written with the word struct before it.
+ */
+struct serpentgleam_factors serpentgleam_factors(uint64_t code, uint64_t days);
 
 #ifdef __cplusplus
 }

@@ -1,6 +1,7 @@
 """The worked examples of the page: each block of the prose filled with arithmetic and with what margin prints."""
 import re
 
+from . import factor_blocks
 from .agreement import agreed, same
 from .pairing import answer_of, steps_of
 from .product import ROOT, printed
@@ -155,7 +156,7 @@ def steps_block(block):
 
 FILLERS = {'unit': unit_block, 'units': units_table, 'pair': pair_block, 'pairs': pairs_table,
            'quantities': quantities_block, 'account': account_block, 'example': example_block, 'steps': steps_block,
-           'refusals': refusal_table}
+           'refusals': refusal_table, **factor_blocks.FILLERS}
 
 
 def filled(prose):

@@ -1,10 +1,10 @@
-"""The product's answers: an account's text made into its file, and what the proved program margin prints for it."""
+"""The product's answers: an account's text made into its file, and what the proved programs print."""
 import subprocess
 import sys
+from functools import lru_cache
 from pathlib import Path
 
 ROOT = Path(__file__).resolve().parents[2]
-MARGIN = ROOT / 'target' / 'bin' / 'margin'
 
 # The text form of an account. This is the one place that says where its modules are.
 sys.path.insert(0, str(ROOT / 'python'))
@@ -17,9 +17,22 @@ def file_from_text(text, trailer=None):
     return file_of(read_account(text.encode('utf-8')), trailer)
 
 
+def lines_of(program, data):
+    """The lines that a proved program prints for its standard input."""
+    path = ROOT / 'target' / 'bin' / program
+    if not path.exists():
+        sys.exit(f'{path.relative_to(ROOT)} is not there: rt check {program}')
+    run = subprocess.run([path], input=data, capture_output=True, check=True)
+    return run.stdout.decode('ascii').splitlines()
+
+
 def printed(file):
     """The lines that margin prints for a file's bytes."""
-    if not MARGIN.exists():
-        sys.exit(f'{MARGIN.relative_to(ROOT)} is not there: rt check margin')
-    run = subprocess.run([MARGIN], input=file, capture_output=True, check=True)
-    return run.stdout.decode('ascii').splitlines()
+    return lines_of('margin', file)
+
+
+@lru_cache(maxsize=None)
+def factors_printed():
+    """What factors_list prints for each code and number of days: fa and fb, or the refusal."""
+    lines = [line.split(' ', 2) for line in lines_of('factors_list', b'')]
+    return {(int(code), int(days)): answer for code, days, answer in lines}

@@ -59,12 +59,13 @@ def answer(example, file, expected):
 
 
 def refusal_table(_):
-    """The numbers of document 01's table, and files with two faults or without positions."""
+    """The numbers of document 01's table, document 02's 14, and files with two faults or without positions."""
     lines = ['| Number | Given for | Example | `margin` prints |', '|---|---|---|---|']
     lines += [f'| {number} | {given} | {example} | {answer(example, file(), f"refused {number} {row}")} |'
               for number, given, example, file, row in REFUSALS]
     lines += ['| 12 | Line list: fewer than p entries | C call `serpentgleam_margin` alone | |',
-              '| 13 | Row asked for: p or above | C call `serpentgleam_position_amount` alone | |', '',
-              '| File | `margin` prints |', '|---|---|']
+              '| 13 | Row asked for: p or above | C call `serpentgleam_position_amount` alone | |',
+              '| 14 | Factors asked for: n above 1,800, or code not 0 to 3 | C call `serpentgleam_factors` alone | |',
+              '', '| File | `margin` prints |', '|---|---|']
     lines += [f'| {example} | {answer(example, file(), expected)} |' for example, file, expected in OTHER_FILES]
     return '\n'.join(lines)

@@ -5,13 +5,15 @@
     answer.total, answer.premium, answer.pairs, answer.left
     serpentgleam.position_amount(data, 0)              # of one position row; raises Refused
     serpentgleam.margin_or_refusal(data)               # a Margin or a Refusal, for runs over many files
+    serpentgleam.factors('FCI', 720)                   # fa and fb of a code's row and the days; raises Refused
 
-Amounts are whole centavos. Calls may be made from any threads.
+Amounts are whole centavos, factors whole millionths. Calls may be made from any threads.
 """
-from .answers import REASONS, Left, Margin, Pair, Refusal, Refused
-from .engine import margin, margin_or_refusal, position_amount
+from .answers import REASONS, Factors, Left, Margin, Pair, Refusal, Refused
+from .codes import CODES
+from .engine import factors, factors_or_refusal, margin, margin_or_refusal, position_amount
 from .library import NotFound
 
-__version__ = '0.2.0'
-__all__ = ['REASONS', 'Left', 'Margin', 'NotFound', 'Pair', 'Refusal', 'Refused', 'margin', 'margin_or_refusal',
-           'position_amount']
+__version__ = '0.3.0'
+__all__ = ['CODES', 'REASONS', 'Factors', 'Left', 'Margin', 'NotFound', 'Pair', 'Refusal', 'Refused', 'factors',
+           'factors_or_refusal', 'margin', 'margin_or_refusal', 'position_amount']

@@ -1,4 +1,4 @@
-"""What the engine answers: the margin of an account, or the refusal of its file, whose sentences stand here."""
+"""What the engine answers: an account's margin, a series' factors, or a refusal, whose sentences stand here."""
 from typing import NamedTuple, Tuple
 
 REASONS = {  # 3 is not used: an account without positions is accepted
@@ -14,6 +14,7 @@ REASONS = {  # 3 is not used: an account without positions is accepted
     11: 'a position row: barrier on the wrong side of PV',
     12: 'the list of lines has fewer entries than the account has positions',
     13: 'there is no position row of the number asked for',
+    14: 'there are no factors of the code and days asked for: code not 0 to 3, or days above 1,800',
 }
 NO_SUCH_REFUSAL = 'there is no refusal of this number'
 
@@ -41,8 +42,14 @@ class Margin(NamedTuple):
     total: int
 
 
+class Factors(NamedTuple):
+    """The high and the low stress factor of a series in millionths, as a series row of an account file holds them."""
+    fa: int
+    fb: int
+
+
 class Refusal(NamedTuple):
-    """Why a file is refused: document 01's number, and the row from 0 on in its own table, 0 where none is meant."""
+    """Why a file or a question is refused: number, and row from 0 on in its own table, 0 where none is meant."""
     number: int
     row: int
 
@@ -56,7 +63,7 @@ class Refusal(NamedTuple):
 
 
 class Refused(Exception):
-    """A file is refused, or has no such row. Has the number, row and reason of its `refusal`."""
+    """A file is refused or has no such row, or no such factors are there. Has its refusal's number, row and reason."""
 
     def __init__(self, refusal: Refusal):
         super().__init__(refusal)

@@ -6,14 +6,15 @@ from typing import Callable, NamedTuple, Tuple
 
 from . import __version__, library, usage
 from .answers import Refusal, Refused
-from .engine import margin_or_refusal, position_amount
+from .codes import NAMES, code_named
+from .engine import factors_or_refusal, margin_or_refusal, position_amount
 from .forms import number_of
 from .inputs import (STANDARD_INPUT, Unread, called, names_in, read_account_file, read_either, read_text_file, shown)
 from .lines import Unreadable
 from .options import Options, WrongWords, read_options
 from .output import Unwritten, keep_standard_files_apart, output_to, say
 from .progress import Tally
-from .reports import Amount, Csv, JsonLines, PlainText, legible
+from .reports import Amount, Asked, Csv, JsonLines, PlainText, legible
 from .suggestions import meant
 from .text import check, file_and_broken_rules, text_from_file
 
@@ -106,11 +107,16 @@ def run_check(options):
     return over_files(options, Tally('in order', 'with faults', options.quiet), form.fault_header, answer_one)
 
 
+def is_whole(word):
+    """Whether a word is a whole number."""
+    return word.isascii() and word.isdigit()
+
+
 def run_position(options):
     if len(options.names) != 2:
         raise WrongWords('position takes a file and a row')
     name, row = options.names
-    if not (row.isascii() and row.isdigit()):
+    if not is_whole(row):
         raise WrongWords(f'a row is a whole number from 0 on: {shown(row)}')
     form, row = form_of(options), number_of(row)
     try:
@@ -121,6 +127,33 @@ def run_position(options):
         output.write(form.answer_header)
         output.write(form.answer(name, answer))
     return status
+
+
+def code_and_days(words):
+    """The two numbers that the words after `factors` say."""
+    if len(words) != 2:
+        raise WrongWords('factors takes a code and a number of days')
+    code, days = words
+    try:
+        number = number_of(code) if is_whole(code) else code_named(shown(code))
+    except ValueError as error:
+        raise WrongWords(str(error)) from error
+    if not is_whole(days):
+        raise WrongWords(f'days are a whole number from 0 on: {shown(days)}')
+    return number, number_of(days)
+
+
+def run_factors(options):
+    code, days = code_and_days(options.names)
+    form, answer = form_of(options), factors_or_refusal(code, days)
+    with output_of(options._replace(names=[])) as output:
+        output.write(form.factor_header)
+        output.write(form.factors(Asked(NAMES.get(code, code), days), answer))
+    if not isinstance(answer, Refusal):
+        return DONE
+    if isinstance(form, PlainText):  # the others have the sentence among their fields
+        say(answer.reason)
+    return REFUSED
 
 
 def one_name(options):
@@ -161,6 +194,7 @@ FILES = (*FORMS, 'from', 'null', 'quiet')
 COMMANDS = {
     'margin': Command(usage.MARGIN, FILES, run_margin),
     'position': Command(usage.POSITION, FORMS, run_position),
+    'factors': Command(usage.FACTORS, FORMS, run_factors),
     'check': Command(usage.CHECK, FILES, run_check),
     'to-text': Command(usage.TO_TEXT, ('output',), run_to_text),
     'to-file': Command(usage.TO_FILE, ('output',), run_to_file),

@@ -1,13 +1,15 @@
-"""The two questions of document 01 to the proved library: an account's margin, and one position's amount."""
+"""The questions to the proved library: an account's margin, one position's amount, the factors of a series."""
 import ctypes
 import operator
 from typing import Union
 
 from . import library
-from .answers import Left, Margin, Pair, Refusal, Refused
+from .answers import Factors, Left, Margin, Pair, Refusal, Refused
+from .codes import code_named
 
 PAIR = 1  # the kind of a line that is a pair
 NO_SUCH_ROW = 13
+LARGEST = 2 ** 64 - 1  # number that the library takes
 
 
 class Lent:
@@ -86,3 +88,31 @@ def position_amount(data: bytes, row: int) -> int:
     if amount == -NO_SUCH_ROW:
         raise Refused(Refusal(NO_SUCH_ROW, 0))
     raise Refused(margin_or_refusal(data))  # the margin's refusal is the same, and has the row
+
+
+def number_for_call(number: int, what: str) -> int:
+    """The number to hand over for a number from 0 on: of one that is too large LARGEST, which is refused like it."""
+    number = operator.index(number)
+    if number < 0:
+        raise ValueError(f'{what} from 0 on: {number}')
+    return min(number, LARGEST)
+
+
+def factors_or_refusal(code: Union[str, int], days: int) -> Union[Factors, Refusal]:
+    """The factors of a series, or their refusal: for runs over many series, in which no refusal is raised."""
+    code = number_for_call(code_named(code) if isinstance(code, str) else code, 'a code is a name, or a number')
+    result = library.factors_call()(code, number_for_call(days, 'days are a number'))
+    return Refusal(result.refusal, result.row) if result.refusal else Factors(result.fa, result.fb)
+
+
+def factors(code: Union[str, int], days: int) -> Factors:
+    """The factors fa and fb of a series in millionths, by the circular's row of a code ('FCI', 'FPI', 'OFC', 'OFV' or
+    its number, 0 to 3) and the calendar days to expiry, 0 to 1,800. Raises Refused for any other number.
+
+    >>> factors('FCI', 720)
+    Factors(fa=1863083, fb=1085366)
+    """
+    answer = factors_or_refusal(code, days)
+    if isinstance(answer, Refusal):
+        raise Refused(answer)
+    return answer

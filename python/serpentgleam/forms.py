@@ -13,9 +13,9 @@ class Form(NamedTuple):
 
 
 def number_of(digits):
-    """The number that decimal digits write, or TOO_LARGE for every number of 20 digits and more."""
+    """The number that decimal digits write, or TOO_LARGE for every number above it, which has 20 digits."""
     digits = digits.lstrip('0') or '0'
-    return int(digits) if len(digits) < 20 else TOO_LARGE
+    return min(int(digits), TOO_LARGE) if len(digits) <= 20 else TOO_LARGE
 
 
 def read_whole(text):

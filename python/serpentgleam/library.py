@@ -1,4 +1,4 @@
-"""Finds and loads the shared object of the proved library, and says what its two calls take and give."""
+"""Finds and loads the shared object of the proved library, and says what its calls take and give."""
 import ctypes
 import functools
 import os
@@ -19,6 +19,11 @@ class Result(ctypes.Structure):
     _fields_ = [(name, ctypes.c_uint64) for name in ('refusal', 'row', 'lines', 'total')]
 
 
+class FactorsResult(ctypes.Structure):
+    """struct serpentgleam_factors."""
+    _fields_ = [(name, ctypes.c_uint64) for name in ('refusal', 'row', 'fa', 'fb')]
+
+
 def places():
     """Where the shared object is looked for, the first that is there is taken; this is the only list of them.
 
@@ -34,6 +39,7 @@ def places():
     return [os.path.join(two_above, 'target', 'staticlib', NAME), NAME]
 
 
+@functools.lru_cache(maxsize=None)
 def load():
     """The shared object of the first place that has one."""
     tried = []
@@ -49,25 +55,34 @@ def load():
                    f'In the repository library/shared_object.sh makes it; {VARIABLE} names another')
 
 
+def call(name, gives, *takes):
+    """A call of the shared object by its name in the C header, without its prefix."""
+    try:
+        loaded = load()['serpentgleam_' + name]
+    except AttributeError as error:
+        raise NotFound(f'the shared object is not that of the library, or of an earlier version: {error}') from error
+    loaded.argtypes, loaded.restype = takes, gives
+    return loaded
+
+
 class Calls(NamedTuple):
-    """The library's calls by their names in the C header, without its prefix."""
+    """The library's calls that take a file, by their names in the C header, without its prefix."""
     margin: Callable
     position_amount: Callable
 
 
 @functools.lru_cache(maxsize=None)
 def calls():
-    """The calls of the shared object. Bytes are handed over without a copy."""
-    shared = load()
-    try:
-        loaded = Calls(*(shared['serpentgleam_' + name] for name in Calls._fields))
-    except AttributeError as error:
-        raise NotFound(f'the shared object is not that of the library: {error}') from error
-    loaded.margin.argtypes = [ctypes.c_char_p, ctypes.c_size_t, ctypes.c_void_p, ctypes.c_size_t]
-    loaded.margin.restype = Result
-    loaded.position_amount.argtypes = [ctypes.c_char_p, ctypes.c_size_t, ctypes.c_uint64]
-    loaded.position_amount.restype = ctypes.c_int64
-    return loaded
+    """The calls that take a file. Its bytes are handed over without a copy."""
+    file = (ctypes.c_char_p, ctypes.c_size_t)
+    return Calls(call('margin', Result, *file, ctypes.c_void_p, ctypes.c_size_t),
+                 call('position_amount', ctypes.c_int64, *file, ctypes.c_uint64))
+
+
+@functools.lru_cache(maxsize=None)
+def factors_call():
+    """The call for factors, apart from the others: a library before version 0.3.0 has those and not this one."""
+    return call('factors', FactorsResult, ctypes.c_uint64, ctypes.c_uint64)
 
 
 def list_of_lines():

@@ -3,7 +3,7 @@ import csv
 import io
 import json
 import os
-from typing import NamedTuple
+from typing import NamedTuple, Union
 
 from .answers import Margin, Refusal
 from .faults import Fault
@@ -11,12 +11,19 @@ from .faults import Fault
 ESCAPES = str.maketrans({'\\': '\\\\', '\t': '\\t', '\n': '\\n', '\r': '\\r'})
 ANSWER_FIELDS = ('file', 'kind', 'written', 'held', 'row', 'contracts', 'amount', 'number', 'reason')
 FAULT_FIELDS = ('file', *Fault._fields)
+FACTOR_FIELDS = ('code', 'days', 'fa', 'fb', 'number', 'row', 'reason')
 
 
 class Amount(NamedTuple):
     """One position's amount."""
     row: int
     amount: int
+
+
+class Asked(NamedTuple):
+    """What factors are asked for: a code, by its name where it has one, and days."""
+    code: Union[str, int]
+    days: int
 
 
 def line_records(margin):
@@ -42,7 +49,7 @@ def records(answer):
 
 class PlainText:
     """A line for each line of the answer, after the file's name and a tab; the sentence of a refusal after another."""
-    answer_header = fault_header = b''
+    answer_header = fault_header = factor_header = b''
 
     def answer(self, name, answer):
         """The lines of a file's answer."""
@@ -59,10 +66,15 @@ class PlainText:
         before = os.fsencode(name.translate(ESCAPES)) + b': '
         return b''.join(before + legible(str(fault)).encode() + b'\n' for fault in faults)
 
+    def factors(self, _asked, answer):
+        """The two factors alone, or the refusal without its sentence."""
+        numbers = ('refused', *answer) if isinstance(answer, Refusal) else answer
+        return ' '.join(map(str, numbers)).encode() + b'\n'
+
 
 class JsonLines:
     """An object for each file. In a name, bytes that are not UTF-8 are \\xNN, and file_hex has all its bytes then."""
-    answer_header = fault_header = b''
+    answer_header = fault_header = factor_header = b''
 
     def object(self, name, fields):
         """A line with the file's name and the fields."""
@@ -83,17 +95,23 @@ class JsonLines:
     def faults(self, name, faults):
         return self.object(name, {'faults': [fault._asdict() for fault in faults]})
 
+    def factors(self, asked, answer):
+        fields = {'refused': refusal_record(answer)} if isinstance(answer, Refusal) else answer._asdict()
+        return json.dumps({**asked._asdict(), **fields}).encode() + b'\n'
+
 
 class Csv:
     """A row for each line of the answer or each fault, under a row of the fields' names. Files have their own bytes."""
     answer_header = (','.join(ANSWER_FIELDS) + '\n').encode()
     fault_header = (','.join(FAULT_FIELDS) + '\n').encode()
+    factor_header = (','.join(FACTOR_FIELDS) + '\n').encode()
 
     def rows(self, fields, name, rows):
-        file = os.fsencode(name).decode('utf-8', 'surrogateescape')
+        """Rows whose first field is the name."""
+        first = os.fsencode(name).decode('utf-8', 'surrogateescape')
         written = io.StringIO()
         csv.writer(written, lineterminator='\n').writerows(
-            [file, *(row.get(field) for field in fields[1:])] for row in rows)
+            [first, *(row.get(field) for field in fields[1:])] for row in rows)
         return written.getvalue().encode('utf-8', 'surrogateescape')
 
     def answer(self, name, answer):
@@ -101,6 +119,10 @@ class Csv:
 
     def faults(self, name, faults):
         return self.rows(FAULT_FIELDS, name, [fault._asdict() for fault in faults])
+
+    def factors(self, asked, answer):
+        fields = refusal_record(answer) if isinstance(answer, Refusal) else answer._asdict()
+        return self.rows(FACTOR_FIELDS, str(asked.code), [{'days': asked.days, **fields}])
 
 
 def legible(text):

@@ -5,20 +5,23 @@ COMMAND = '''usage: serpentgleam COMMAND ..
 
   margin FILE..          pairs, rows left, premium and total of account files, or why they are refused
   position FILE ROW      the amount of one position row by itself
+  factors CODE DAYS      the factors fa and fb of a series, by the circular's row of a code and the days to expiry
   check FILE..           every fault of texts and account files, with line, row and field
   to-text [FILE]         an account file as text
   to-file [TEXT]         the account file of a text
   COMMAND --help         what a command takes
   --version
 
-Amounts are whole centavos; rows are counted from 0. Status 0: all accepted; 1: something refused or faulty; 2: a wrong
-word, or a file that cannot be read or written.
+Amounts are whole centavos, factors whole millionths; rows are counted from 0. Status 0: all accepted; 1: something
+refused or faulty; 2: a wrong word, or a file that cannot be read or written.
+'''
+
+CSV_AND_OUTPUT = '''  --csv                  CSV, the first row names the fields
+  -o, --output OUTPUT    into this file, which appears whole when all is done or not at all
 '''
 
 FORMS = '''  --json                 JSON Lines, an object for each file
-  --csv                  CSV, the first row names the fields
-  -o, --output OUTPUT    into this file, which appears whole when all is done or not at all
-'''
+''' + CSV_AND_OUTPUT
 
 NAMES = '''  FILE                   - is standard input
   --from LIST            the files whose names stand in LIST, a line for each; - is standard input
@@ -52,6 +55,21 @@ unsettled premium. Or refused NUMBER ROW, and after a tab why; the number is 13 
 
   FILE                   - is standard input
 ''' + FORMS
+
+FACTORS = '''usage: serpentgleam factors [--json | --csv] [-o OUTPUT] CODE DAYS
+
+Prints FA FB: the high and the low stress factor that the circular's row of a code gives for the days to expiry, in
+millionths as a series row of an account file holds them. In an account's text they are decimals: 1863083 is written
+fa=1.863083. Or refused 14 0, and why on standard error, where the code is not 0 to 3 or the days are above 1800.
+
+  CODE                   FCI, FPI, OFC or OFV, in capitals or small letters, or its number: 0, 1, 2 or 3
+  DAYS                   calendar days to expiry, 0 to 1800
+  --json                 a JSON object
+''' + CSV_AND_OUTPUT + '''
+JSON     code, days, fa, fb; or code, days and refused (number, row, reason). The code is a name, or a number where it
+         has none; a number above 2^64 is written as 2^64.
+CSV      code, days, fa, fb, number, row, reason
+'''
 
 CHECK = '''usage: serpentgleam check [--json | --csv] [-o OUTPUT] [-q] [--from LIST [-0]] [FILE..]
 

@@ -209,15 +209,16 @@ class Words(unittest.TestCase):
     def test_help_and_version(self):
         self.assertEqual(command('--help'), (0, usage.COMMAND.encode(), ''))
         self.assertEqual(command('--version'), (0, f'serpentgleam {serpentgleam.__version__}\n'.encode(), ''))
-        for word, said in (('margin', usage.MARGIN), ('position', usage.POSITION), ('check', usage.CHECK),
-                           ('to-text', usage.TO_TEXT), ('to-file', usage.TO_FILE)):
+        for word, said in (('margin', usage.MARGIN), ('position', usage.POSITION), ('factors', usage.FACTORS),
+                           ('check', usage.CHECK), ('to-text', usage.TO_TEXT), ('to-file', usage.TO_FILE)):
             self.assertEqual(command(word, '--help'), (0, said.encode(), ''))
             self.assertIn(f'\n  {word} ', usage.COMMAND)
 
     def test_words_that_are_not_known(self):
-        self.check([], 'a command is missing: margin, position, check, to-text, to-file')
+        self.check([], 'a command is missing: margin, position, factors, check, to-text, to-file')
         self.check(['margn'], 'there is no command margn; did you mean margin?')
         self.check(['to_text'], 'there is no command to_text; did you mean to-text?')
+        self.check(['factor'], 'there is no command factor; did you mean factors?')
         self.check(['--verison'], 'there is no command --verison; did you mean --version?')
         self.check([b'\xe7'], 'there is no command \\xe7')
 

@@ -1,5 +1,5 @@
-"""The C header says what the module says: version, limits, kinds of lines, refusals and their sentences. The manual
-page names every command and option.
+"""The C header says what the module says: version, limits, kinds of lines, codes, refusals and their sentences. The
+manual page names every command and option.
 """
 import re
 import unittest
@@ -19,6 +19,12 @@ MEMBERS = re.findall(r'"(\w+)"', re.search(r'members = \[(.*)\]', bytes_of('Carg
 def limit(table, name):
     """The most that a field may say."""
     return next(field.limits.most for field in table.fields if field.name == name)
+
+
+def fields_of(name):
+    """The fields of a struct of the header, which are all of 64 bits."""
+    inside = re.search(rf'^struct serpentgleam_{name} \{{\n((?:    uint64_t \w+;\n)+)\}};$', HEADER, re.MULTILINE)[1]
+    return re.findall(r'(\w+);', inside)
 
 
 class Versions(unittest.TestCase):
@@ -44,10 +50,20 @@ class Numbers(unittest.TestCase):
             'MOST_SERIES': limit(layout.TRAILER, 'series count'),
             'MOST_POSITIONS': limit(layout.TRAILER, 'position count'),
             'MOST_LINES': library.MOST_LINES,
+            'MOST_DAYS': 1800,
         })
+
+    def test_most_days(self):
+        self.assertIsInstance(serpentgleam.factors_or_refusal('FCI', NUMBERS['MOST_DAYS']), serpentgleam.Factors)
+        self.assertEqual(serpentgleam.factors_or_refusal('FCI', NUMBERS['MOST_DAYS'] + 1),
+                         (NUMBERS['REFUSED_FACTORS_ASKED_FOR'], 0))
 
     def test_kinds_of_lines(self):
         self.assertEqual((NUMBERS['PAIR'], NUMBERS['LEFT']), (engine.PAIR, engine.PAIR + 1))
+
+    def test_codes(self):
+        self.assertEqual({name: number for name, number in NUMBERS.items() if re.fullmatch('[FO][A-Z]{2}', name)},
+                         serpentgleam.CODES)
 
     def test_refusals(self):
         refusals = [number for name, number in NUMBERS.items() if name.startswith('REFUSED_')]
@@ -61,14 +77,13 @@ class Numbers(unittest.TestCase):
 
     def test_no_such_refusal(self):
         sentence = re.search(r'default:\s+return "(.*)";', HEADER)[1]
-        for number in (0, 3, 14):
+        for number in (0, 3, 15):
             self.assertEqual(serpentgleam.Refusal(number, 0).reason, sentence)
 
     def test_structures(self):
-        fields = re.search(r'struct serpentgleam_result \{(.*?)\}', HEADER, re.DOTALL)[1]
-        self.assertEqual(re.findall(r'uint64_t (\w+);', fields), [name for name, _ in library.Result._fields_])
-        fields = re.search(r'struct serpentgleam_line \{(.*?)\}', HEADER, re.DOTALL)[1]
-        self.assertEqual(len(re.findall(r'uint64_t (\w+);', fields)), library.LINE_NUMBERS)
+        for name, structure in (('result', library.Result), ('factors', library.FactorsResult)):
+            self.assertEqual(fields_of(name), [field for field, _ in structure._fields_])
+        self.assertEqual(len(fields_of('line')), library.LINE_NUMBERS)
 
 
 class Manual(unittest.TestCase):

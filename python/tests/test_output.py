@@ -35,8 +35,8 @@ class FullDisk(unittest.TestCase):
                       ['to-text', self.account], ['to-file', self.text], ['check', '--json', self.text])
 
     def test_no_room_at_all(self):
-        for words in self.calls + (['position', DOCUMENT, '0'], ['check', '--csv', DOCUMENT], ['--help'],
-                                   ['--version'], ['margin', '--help']):
+        for words in self.calls + (['position', DOCUMENT, '0'], ['factors', 'FCI', '720'], ['factors', 'FCI', '1801'],
+                                   ['check', '--csv', DOCUMENT], ['--help'], ['--version'], ['margin', '--help']):
             with self.subTest(words), open('/dev/full', 'wb') as full:
                 status, _, errors = command(*words, stdout=full)
                 self.assertEqual((status, errors), (2, 'serpentgleam: standard output: No space left on device; the '
@@ -128,7 +128,7 @@ class ClosedPipe(unittest.TestCase):
 
     def test_every_command(self):
         for words in (['margin', *EXAMPLES], ['margin', '--json', *EXAMPLES], ['position', DOCUMENT, '0'],
-                      ['check', '--csv', *EXAMPLES], ['to-text', DOCUMENT],
+                      ['factors', 'FCI', '720'], ['check', '--csv', *EXAMPLES], ['to-text', DOCUMENT],
                       ['to-file', DOCUMENT.replace('.account', '.txt')], ['--help'], ['--version']):
             self.check(*words)
 
