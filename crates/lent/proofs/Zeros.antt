@@ -5,7 +5,7 @@
 --     array, array-slice, array-room   the array while it is lent, the slice that lends it, and that so many numbers can be lent
 --     zeros-line       its lines are all zeros. It waits for request 8, which writes such lines
 use mathlib.Core.Path.{_≡_, refl, subst, sym}
-use Prim.Native.Nat.{ℕ, zero, suc, _+_, _*_}
+use Prim.Native.Nat.{ℕ, zero, suc, _+_, _*_, _/_, _%_}
 use mathlib.Core.List.{List, [], _∷_}
 use lib.Dec.{lit<}
 use lib.ListN.{getD, length, replicate, length-replicate}
@@ -107,7 +107,9 @@ init-zeros {M} {𝓤} {H} {A} {K} {W} {Γ} t n {b} e = record {
 
 pub zeros-line : (i : ℕ) → lineFrom zeros i ≡ noLine
 unfolding zeros
-zeros-line i = λ t. record { kind = none mostNumbers (numbersPerLine * i) t; secondNumber = none mostNumbers (numbersPerLine * i + 1) t; thirdNumber = none mostNumbers (numbersPerLine * i + 2) t; fourthNumber = none mostNumbers (numbersPerLine * i + 3) t; fifthNumber = none mostNumbers (numbersPerLine * i + 4) t }
+zeros-line i =
+    let head = none mostNumbers (numbersPerLine * i) in
+    λ t. record { kind = head t % 4; secondNumber = head t / 4 % 256; thirdNumber = head t / 1_024; fourthNumber = none mostNumbers (numbersPerLine * i + 1) t; fifthNumber = none mostNumbers (numbersPerLine * i + 2) t }
   where
     none : (n j : ℕ) → _≡_ {A = ℕ} (getD (replicate n 0) j 0) 0
     none zero j = refl

@@ -22,4 +22,4 @@ unfolding linesFrom
 lines-same x y zero f = refl
 lines-same x y (suc n) f =
     ap₂ (λ a b. a ++ (b ∷ [])) (lines-same x y n (λ i l. f i (omega arith)))
-    (rw (f (numbersPerLine * n) (omega arith), f (numbersPerLine * n + 1) (omega arith), f (numbersPerLine * n + 2) (omega arith), f (numbersPerLine * n + 3) (omega arith), f (numbersPerLine * n + 4) (omega arith)))
+    (rw (f (numbersPerLine * n) (omega arith), f (numbersPerLine * n + 1) (omega arith), f (numbersPerLine * n + 2) (omega arith)))

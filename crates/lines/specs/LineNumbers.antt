@@ -1,5 +1,6 @@
--- Lines as plain numbers: five to a line, in the order of document 01, one line after the other.
-use Prim.Native.Nat.{ℕ, zero, suc, _+_, _*_, _≤_, _<_}
+-- Lines as plain numbers: three to a line, one line after the other. The first one has the kind and the second and third number
+-- of document 01's five, which are small; the other two are its fourth and fifth.
+use Prim.Native.Nat.{ℕ, zero, suc, _+_, _*_, _/_, _%_, _≤_, _<_}
 use mathlib.Core.List.{List, [], _∷_, _++_}
 use mathlib.Core.Path.{_≡_}
 use lib.ListN.{getD}
@@ -8,22 +9,32 @@ use Rattle.rules.specs.declared.Line.{Line}
 use Rattle.rules.specs.declared.MarginAnswer.{MarginAnswer}
 use Rattle.rules.specs.declared.MarginAnswer.the-variants.{Total, NoTotal}
 
--- "An entry is five whole numbers". The numbers of one line, and those of as many lines as an account has at most.
+-- The numbers of one line, and those of as many lines as an account has at most.
 abbrev pub numbersPerLine : ℕ
-numbersPerLine = 5
+numbersPerLine = 3
 
 abbrev pub mostNumbers : ℕ
 mostNumbers = numbersPerLine * mostLines
+
+-- Kind, second and third number in one.
+abbrev pub headOf : Line → ℕ
+headOf line = line .kind + line .secondNumber * 4 + line .thirdNumber * 1_024
+
+-- A line whose first three numbers can stand in one: a row is below 256, contracts are at most 100,000.
+pub record Packable (line : Line) : Type 0 where
+  pub kind-most : line .kind ≤ 3
+  pub second-most : line .secondNumber ≤ 255
+  pub third-most : line .thirdNumber ≤ 100_000
 
 -- Line i of the numbers.
 abbrev pub lineFrom : List ℕ → ℕ → Line
 lineFrom numbers i =
     record {
-      kind = getD numbers (numbersPerLine * i) 0;
-      secondNumber = getD numbers (numbersPerLine * i + 1) 0;
-      thirdNumber = getD numbers (numbersPerLine * i + 2) 0;
-      fourthNumber = getD numbers (numbersPerLine * i + 3) 0;
-      fifthNumber = getD numbers (numbersPerLine * i + 4) 0;
+      kind = getD numbers (numbersPerLine * i) 0 % 4;
+      secondNumber = getD numbers (numbersPerLine * i) 0 / 4 % 256;
+      thirdNumber = getD numbers (numbersPerLine * i) 0 / 1_024;
+      fourthNumber = getD numbers (numbersPerLine * i + 1) 0;
+      fifthNumber = getD numbers (numbersPerLine * i + 2) 0;
     }
 
 -- The first n lines of the numbers.

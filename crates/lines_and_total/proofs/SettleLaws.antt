@@ -74,7 +74,7 @@ rows-ask b l table left n t k el en up =
     }
 
 -- All lines, once the rows left are written after the pairs.
-pub account-listed : (b : List ℕ) (l : Layout) (left n n′ : List ℕ) (t : Tally) (t′ : Tally) → Known b l → length n ≡ 1280
+pub account-listed : (b : List ℕ) (l : Layout) (left n n′ : List ℕ) (t : Tally) (t′ : Tally) → Known b l → length n ≡ mostNumbers
     → Paired (accountOf b l) left n t → Added (leftLines (accountOf b l) (nth left) (l .positions)) n n′ t t′
     → AccountListed (accountOf b l) n′ t′
 account-listed b l left n n′ t t′ k en p f =

@@ -1,4 +1,4 @@
-// The whole account: its lines as plain numbers, five to a line, and its total.
+// The whole account: its lines as plain numbers, and its total.
 use crate::listing::list_lines;
 use crate::premium::premium_sum;
 use account::reader::read_file;

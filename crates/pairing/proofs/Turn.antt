@@ -16,7 +16,7 @@ use Rattle.pairing.specs.Standings.{BestRank, Lines, Standings}
 use Rattle.pairing.specs.Pairing.{PairAsked, PairWritten, Paired, PairedBy, PairedUp, pairOf}
 use Rattle.pairing.specs.declared.Tally.{Tally}
 use Rattle.lines.proofs.LinesHeld.{lines-more, lines-same}
-use Rattle.lines.specs.LineNumbers.{linesFrom}
+use Rattle.lines.specs.LineNumbers.{linesFrom, mostNumbers}
 use Rattle.rules.proofs.Counts.{bound, open-most, room, taken-most}
 use Rattle.rules.proofs.LineLaws.{pairLines-append}
 use Rattle.rules.proofs.MayPair.{apart}
@@ -154,7 +154,7 @@ module _ (b : List ℕ) (l : Layout) (known : Known b l) (left numbers table tre
     pub round-few : l .positions ≤ 256
     round-few = ok .placed .positions-most
 
-    pub round-asks : 256 ≤ length left → 1280 ≤ length numbers → PairAsked b l left numbers k (m / 256 % 256) (m % 256) (nth places (512 + m / 256 % 256))
+    pub round-asks : 256 ≤ length left → mostNumbers ≤ length numbers → PairAsked b l left numbers k (m / 256 % 256) (m % 256) (nth places (512 + m / 256 % 256))
     round-asks long wide =
         let at = choice-allowed (bookOf (accountOf b l)) (nth left) picks in
         record {

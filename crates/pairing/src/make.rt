@@ -1,4 +1,4 @@
-// One pair made: its five numbers written, its two quantities lowered.
+// One pair made: its line written, its two quantities lowered.
 use account::rows::position_row;
 use account::rows::series_row;
 use lines::put_line;

@@ -8,7 +8,6 @@ use Rattle.rules.specs.Lines.{listAfter, marginAnswer}
 use Rattle.rules.specs.declared.Line.{Line}
 use Rattle.serpentgleam.specs.MarginNumbers.{marginNumbers}
 use Rattle.serpentgleam.specs.declared.Margin.{Margin}
-use Rattle.lent.proofs.Literal.{big-lit}
 use Rattle.lent.proofs.Locals.{fills, free-cell, lands-in, local}
 use Rattle.lent.proofs.Several.{says-both}
 use Rattle.lent.proofs.WriteCall.{WriteEntries, calls-write}
@@ -96,7 +95,7 @@ module _ {M : Type 1} (𝓤 : URA M) (H : Heap 𝓤) (A : Atoms 𝓤) (W : Given
         -- [lines; its token; the numbers; file's token; file; _13 at 5, _4 at 23, _2 at 26, _0 at 30]: so before and after each call
         fills ! (of-opd ! (load ! (from ! (fld ! refl (stop !))) (look-in ! 26 (sub ! 1 refl (whole !))))) 19 refl (tt, record { fits = room′ .0 }) $
         fills ! (addr ! (from ! (stop !))) 17 refl (tt, tt) $
-        fills ! (agg ! (and-then ! (local ! 17 refl) (and-then ! (big-lit ! (record { fits = lit< tt })) (no-more !)))) 15 refl (tt, (tt, (record { fits = lit< tt }, tt))) $
+        fills ! (agg ! (and-then ! (local ! 17 refl) (and-then ! (lit ! tt) (no-more !)))) 15 refl (tt, (tt, (record { fits = lit< tt }, tt))) $
         calls-settle 𝓤 H A W mem run κ q f (length ys) (room′ .0) l₃ zeros zeros-length ! fm (known .k-settle) (λ ν δ. and-then ! (local ! 28 refl) (and-then ! (local ! 19 refl) (and-then ! (local ! 15 refl) (no-more !)))) (λ w r numbers settled is-r.
         lands-in ! 23 refl (EL.lawful E.the-type E′.the-laws 𝓤 H A W tt .typed r _ is-r .0) $
         calls-count 𝓤 H A W mem run r w is-r ! fm (known .k-count) (and-then ! (local ! 24 refl) (no-more !)) (λ _ n e is-n.
@@ -104,7 +103,7 @@ module _ {M : Type 1} (𝓤 : URA M) (H : Heap 𝓤) (A : Atoms 𝓤) (W : Given
         fills ! (addr ! (from ! (fld ! refl (hop ! (look-in ! 26 (sub ! 0 refl (whole !))) (stop !))))) 11 refl (tt, tt) $
         fills ! (agg ! (and-then ! (local ! 11 refl) (and-then ! (load ! (from ! (fld ! refl (stop !))) (look-in ! 26 (sub ! 1 refl (whole !)))) (no-more !)))) 9 refl (tt, (tt, (record { fits = room′ .0 }, tt))) $
         fills ! (addr ! (from ! (stop !))) 7 refl (tt, tt) $
-        fills ! (agg ! (and-then ! (local ! 7 refl) (and-then ! (big-lit ! (record { fits = lit< tt })) (no-more !)))) 5 refl (tt, (tt, (record { fits = lit< tt }, tt))) $
+        fills ! (agg ! (and-then ! (local ! 7 refl) (and-then ! (lit ! tt) (no-more !)))) 5 refl (tt, (tt, (record { fits = lit< tt }, tt))) $
         calls-write 𝓤 H A W mem run κ′ q′ x 0 n (lit< tt) (is-n .1) l₃ numbers (settled .numbers-length) (fits file ys numbers r settled n e) ! fm (known .k-write) (λ ν δ. and-then ! (local ! 9 refl) (and-then ! (lit ! tt) (and-then ! (local ! 21 refl) (and-then ! (local ! 5 refl) (no-more !))))) (λ _ o us written len is-o.
         -- [the last list; lines's token; the numbers; file's token; file; …]
         lands-in ! 13 refl (nothing-lawful 𝓤 H A W .typed o _ is-o .0) $

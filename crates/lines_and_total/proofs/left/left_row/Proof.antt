@@ -5,6 +5,7 @@ use Rattle.numbers.specs.Lists.{nth}
 use Rattle.rules.specs.File.{accountOf}
 use borrow.Author.Needs.{needs}
 use denote.Ref.{now}
+use lib.Dec.{lit≤}
 use native.Mathlib.Omega.{arith}
 
 mul-q : tie.Need-mul-q
@@ -29,7 +30,7 @@ left-amount-requires : tie.Need-left-amount-requires
 left-amount-requires c κs = record { file = c .before .before .before .before .before .before .before .pre .file; row-below = c .before .before .before .before .before .before .before .pre .row-below; unit-is = c .before .before .before .before .before .before .before .pre .units (c .before .before .before .before .before .before .before .args .row) (c .before .before .before .before .before .before .before .pre .row-below); q-most = c .before .before .before .before .before .before .before .pre .left-most }
 
 put-line-requires : tie.Need-put-line-requires
-put-line-requires c κs = search needs
+put-line-requires c κs = (omega (arith, c .before .before .before .before .before .before .before .before .before .pre .room, c .before .before .before .before .before .before .before .before .before .pre .few, c .before .before .before .if1 .left), record { kind-most = lit≤ tt; second-most = omega (arith, c .before .before .before .before .before .before .before .before .before .pre .row-below, c .before .before .before .before .before .before .before .before .before .pre .file .placed .positions-most); third-most = c .before .before .before .before .before .before .before .before .before .pre .left-most })
 
 add-t11 : tie.Need-add-t11
 add-t11 c = search needs

@@ -4,6 +4,7 @@ use Rattle.pairing.proofs.make.make_pair.Statement.{statement}
 use Rattle.pairing.proofs.make.make_pair.Tie as tie
 use borrow.Author.Needs.{needs}
 use denote.Ref.{now}
+use lib.Dec.{lit≤}
 use lib.ListN.{length-set}
 use native.Mathlib.Omega.{arith}
 
@@ -44,7 +45,7 @@ slice-write-left-2 : tie.Need-slice-write-left-2
 slice-write-left-2 c = simp length-set (omega (arith, c .before .before .before .before .before .before .before .pre .held, c .before .before .before .before .before .before .before .pre .file .placed .positions-most, c .before .before .before .before .before .before .before .pre .lefts))
 
 put-line-requires : tie.Need-put-line-requires
-put-line-requires c κs = c .before .before .before .before .before .before .before .before .pre .room
+put-line-requires c κs = (c .before .before .before .before .before .before .before .before .pre .room, record { kind-most = lit≤ tt; second-most = omega (arith, c .before .before .before .before .before .before .before .before .pre .written, c .before .before .before .before .before .before .before .before .pre .file .placed .positions-most); third-most = omega (arith, c .before .before .before .before .before .before .before .before .pre .held, c .before .before .before .before .before .before .before .before .pre .file .placed .positions-most) })
 
 same-length : tie.Need-same-length
 same-length c = simp length-set
