@@ -6,7 +6,7 @@
  *
  * The library has no state, takes no memory from a heap, starts no thread and calls nothing of the operating system: every
  * call may be made from any thread, and calls on different threads do not affect each other. A call that takes a file needs
- * about 34 KB of stack or less, the one for factors about 8 KB.
+ * about 30 KB of stack or less, the one for factors about 8 KB.
  *
  * It reads the bytes handed over during the call alone, keeps no pointer to them and writes nothing to them; the caller
  * owns them before, during and after. The same holds of a list of lines, which it writes during the call alone and which
