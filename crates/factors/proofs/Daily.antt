@@ -41,7 +41,7 @@ low-by c d t =
     (leb→le (multiplied up d 360) (gb c) (both-left a b t))
     (λ h. omega (arith, h, ltb→lt (gb c) (multiplied up (suc d) 360) (both-right a b t)))
 
--- The numbers of a code that was told to be k, by k's row and the two tests.
+-- The numbers of a code that is known to be k, by k's row and the two tests.
 pub numbers-of : (c k : Code) (r : CodeNumbers) → c ≡ k → r .f2 ≡ codeRow k .f2 → r .f4 ≡ codeRow k .f4 → T (isHigh k (r .high)) → T (isLow k (r .low)) → NumbersOf c r
 numbers-of c k r e a b h l =
     subst (λ (x : Code). NumbersOf x r) (sym e)

@@ -5,9 +5,9 @@ use mathlib.Core.Logic.{_⊎_, inl, inr}
 use lib.Dec.{lit≤, lit<}
 use native.Mathlib.Nat.{mul-le-mul, mul-le-mul-left, mul-le-mul-right}
 use native.Mathlib.Omega.{arith}
-use Rattle.factors.proofs.Multiplied.{growth-most, one-least, rises}
+use Rattle.factors.proofs.Multiplied.{days, growth-most, one-least, rises}
 use Rattle.factors.specs.Factors.{Growth, HighDaily, LowDaily, codeRow, down, ga, gb, multiplied, one, up}
-use Rattle.factors.specs.Numbers.{Joinable, mostDaily, mostGrowth}
+use Rattle.factors.specs.Numbers.{FormulaAsked, mostDaily, mostGrowth}
 use Rattle.factors.specs.declared.Code.{Code}
 use Rattle.factors.specs.declared.Code.the-variants.{FCI, FPI, OFC, OFV}
 use Rattle.numbers.proofs.Order.{split}
@@ -39,11 +39,11 @@ unfolding multiplied
 one-stays = lit≤ tt
 
 -- A daily factor is from 1 to the largest.
-abbrev pub Daily : ℕ → Type 0
-Daily d = (one ≤ d) × (d ≤ mostDaily)
+abbrev pub DailyWithin : ℕ → Type 0
+DailyWithin d = (one ≤ d) × (d ≤ mostDaily)
 
 module _ (c : Code) where
-  -- What reaches ga is more than what stays at or below gb.
+  -- A factor that reaches ga is not below the low daily factor.
   pub low-below : (d e : ℕ) → ga c ≤ multiplied down d 360 → LowDaily c e → e ≤ d
   low-below d e h k = go (split d e)
     where
@@ -51,7 +51,7 @@ module _ (c : Code) where
       go (inl l) = absurd (omega (arith, h, k .holds, row-limits c .rates, rises down up d e 360 (lit≤ tt) (omega arith)))
       go (inr l) = l
 
-  pub high-daily : (d : ℕ) → HighDaily c d → Daily d
+  pub high-daily : (d : ℕ) → HighDaily c d → DailyWithin d
   high-daily d h = (go (split d one), h .least mostDaily (omega (arith, row-limits c .ga-most, largest-reaches)))
     where
       go : (d < one) ⊎ (one ≤ d) → one ≤ d
@@ -60,16 +60,20 @@ module _ (c : Code) where
           (omega (arith, h .holds, row-limits c .rates, row-limits c .gb-least, one-stays, rises down up d one 360 (lit≤ tt) (omega arith)))
       go (inr l) = l
 
-  pub low-daily : (d : ℕ) → LowDaily c d → Daily d
+  pub low-daily : (d : ℕ) → LowDaily c d → DailyWithin d
   low-daily d h = (
     h .greatest one (omega (arith, row-limits c .gb-least, one-stays)),
     low-below mostDaily d (omega (arith, row-limits c .ga-most, largest-reaches)) h,
   )
 
+  -- "stay at or below gb": the definition asks it of the last of the 360 multiplications, and those before it come to no more.
+  pub low-stays : (d n : ℕ) → LowDaily c d → n ≤ 360 → multiplied up d n ≤ gb c
+  low-stays d n h few = omega (arith, h .holds, days up d (low-daily d h .0) n 360 few)
+
   -- What the formulas are worked out from, within its limits.
-  pub joinable : (D : ℕ → Type 0) (r n x s : ℕ) → ((d : ℕ) → D d → Daily d) → r ≤ up → n ≤ mostDays → Growth D r n x → Root n s
-      → Joinable x s (codeRow c .f2) (codeRow c .f4)
-  joinable D r n x s within k few g q =
+  pub formula-asked : (D : ℕ → Type 0) (r n x s : ℕ) → ((d : ℕ) → D d → DailyWithin d) → r ≤ up → n ≤ mostDays → Growth D r n x → Root n s
+      → FormulaAsked x s (codeRow c .f2) (codeRow c .f4)
+  formula-asked D r n x s within k few g q =
       let d = within (g .daily) (g .is-daily) in
       record {
         growth-least = omega (arith, g .is, one-least r (g .daily) (d .0) n);
@@ -80,18 +84,18 @@ module _ (c : Code) where
       }
 
 -- The products of the formulas: none passes 64 bits, and no difference goes below 0.
-module _ (x s f2 f4 : ℕ) (h : Joinable x s f2 f4) where
-  pub spread-most : f2 * s ≤ 5_366_563_200
-  spread-most = mul-le-mul (h .f2-most) (h .root-most)
+module _ (x s f2 f4 : ℕ) (h : FormulaAsked x s f2 f4) where
+  pub f2-root-most : f2 * s ≤ 5_366_563_200
+  f2-root-most = mul-le-mul (h .f2-most) (h .root-most)
 
-  pub wide-most : x * (10_000_000_000 + f2 * s) ≤ 4_917_300_224_000_000_000
-  wide-most = mul-le-mul {m₂ = 15_366_563_200} (h .growth-most) (omega (arith, spread-most))
+  pub high-product-most : x * (10_000_000_000 + f2 * s) ≤ 4_917_300_224_000_000_000
+  high-product-most = mul-le-mul {m₂ = 15_366_563_200} (h .growth-most) (omega (arith, f2-root-most))
 
-  pub narrow-most : x * (10_000_000_000 - f2 * s) ≤ 3_200_000_000_000_000_000
-  narrow-most = mul-le-mul {m₂ = 10_000_000_000} (h .growth-most) (omega arith)
+  pub low-product-most : x * (10_000_000_000 - f2 * s) ≤ 3_200_000_000_000_000_000
+  low-product-most = mul-le-mul {m₂ = 10_000_000_000} (h .growth-most) (omega arith)
 
-  pub narrow-least : f4 * 100_000_000_000_000 ≤ x * (10_000_000_000 - f2 * s)
-  narrow-least =
+  pub low-product-least : f4 * 100_000_000_000_000 ≤ x * (10_000_000_000 - f2 * s)
+  low-product-least =
       let l : 463_343_680_000_000_000 ≤ x * (10_000_000_000 - f2 * s) =
-      mul-le-mul {m₁ = 4_633_436_800} (h .growth-least) (omega (arith, spread-most)) in
+      mul-le-mul {m₁ = 4_633_436_800} (h .growth-least) (omega (arith, f2-root-most)) in
       omega (arith, l, h .f4-most)

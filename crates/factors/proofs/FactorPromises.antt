@@ -5,11 +5,11 @@ use mathlib.Core.Path.{_≡_, refl, ap}
 use lib.Dec.{lit≤, lit<}
 use native.Mathlib.Nat.{le-trans, mul-le-mul, mul-le-mul-right}
 use native.Mathlib.Omega.{arith}
-use Rattle.factors.proofs.FactorLimits.{high-daily, joinable, low-below, wide-most}
+use Rattle.factors.proofs.FactorLimits.{high-daily, formula-asked, low-below, high-product-most}
 use Rattle.factors.proofs.Multiplied.{down-step, rises, up-step}
 use Rattle.factors.proofs.Powers.{at-least, at-most, high-power, low-power}
 use Rattle.factors.specs.Factors.{Fa, FactorsAre, Fb, HighDaily, HighGrowth, LowGrowth, codeRow, down, ga, gb, multiplied, one, up}
-use Rattle.factors.specs.Numbers.{Joinable}
+use Rattle.factors.specs.Numbers.{FormulaAsked}
 use Rattle.factors.specs.declared.Code.{Code}
 use Rattle.factors.specs.declared.FactorsAnswer.the-variants.{NoFactors}
 use Rattle.roots.proofs.Extremes.{least-one}
@@ -61,8 +61,8 @@ low-most y x q h = omega arith
 
 -- "Every fa so made keeps its limit of document 01", and every fb is at most its fa.
 module _ (c : Code) (n fa : ℕ) (few : n ≤ mostDays) (h : Fa c n fa) where
-  parts : Joinable (h .growth) (h .root) (codeRow c .f2) (codeRow c .f4)
-  parts = joinable c (HighDaily c) up n (h .growth) (h .root) (high-daily c) (lit≤ tt) few (h .is-growth) (h .is-root)
+  parts : FormulaAsked (h .growth) (h .root) (codeRow c .f2) (codeRow c .f4)
+  parts = formula-asked c (HighDaily c) up n (h .growth) (h .root) (high-daily c) (lit≤ tt) few (h .is-growth) (h .is-root)
 
   pub fa-least : 1_000_000 ≤ fa
   fa-least = rw (h .is) (high-least (h .growth) (codeRow c .f2 * h .root) (codeRow c .f4) (parts .growth-least))
@@ -71,7 +71,7 @@ module _ (c : Code) (n fa : ℕ) (few : n ≤ mostDays) (h : Fa c n fa) where
   fa-most =
       rw (h .is)
       (high-most (h .growth * (10_000_000_000 + codeRow c .f2 * h .root)) (codeRow c .f4)
-      (wide-most (h .growth) (h .root) (codeRow c .f2) (codeRow c .f4) parts) (parts .f4-most))
+      (high-product-most (h .growth) (h .root) (codeRow c .f2) (codeRow c .f4) parts) (parts .f4-most))
 
   pub fb-most : (fb : ℕ) → Fb c n fb → fb ≤ fa
   fb-most fb k =
@@ -85,7 +85,7 @@ module _ (c : Code) (n fa : ℕ) (few : n ≤ mostDays) (h : Fa c n fa) where
       (mul-le-mul grown (omega arith)))
 
   -- "so that a series row made of them keeps its limits": any series row within document 01's limits is still within them,
-  -- and has no fault, with fa and fb in place of its own.
+  -- and has no fault, with fa and fb in place of its own, which are not looked at.
   module _ (fb : ℕ) (k : Fb c n fb) (r : SeriesRow) (w : SeriesWithin r) where
     pub series-within : SeriesWithin (withFactors r fa fb)
     series-within =

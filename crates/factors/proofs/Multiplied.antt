@@ -5,6 +5,7 @@ use lib.Dec.{lit≤}
 use native.Mathlib.Nat.{add-sub-of-le, add-suc, add-zero, mul-le-mul, mul-le-mul-left}
 use native.Mathlib.Omega.{arith}
 use Rattle.factors.specs.Factors.{down, multiplied, one, up}
+use Rattle.factors.specs.Numbers.{mostDaily, mostGrowth}
 use Rattle.roots.specs.Roots.{mostDays}
 
 -- One division, with the product as one number.
@@ -53,10 +54,10 @@ module _ (r d : ℕ) (h : one ≤ d) where
   one-least n = days 0 n zero-le
 
 -- The largest growth: the largest daily factor of the four rows, at 1,800 days.
-largest : multiplied up 100_064_307 mostDays ≤ 320_000_000
+largest : multiplied up mostDaily mostDays ≤ mostGrowth
 unfolding multiplied
 largest = lit≤ tt
 
-pub growth-most : (r d n : ℕ) → r ≤ up → d ≤ 100_064_307 → n ≤ mostDays → multiplied r d n ≤ 320_000_000
+pub growth-most : (r d n : ℕ) → r ≤ up → d ≤ mostDaily → n ≤ mostDays → multiplied r d n ≤ mostGrowth
 growth-most r d n k h l =
-    omega (arith, rises r up d 100_064_307 n k h, days up 100_064_307 (lit≤ tt) n mostDays l, largest)
+    omega (arith, rises r up d mostDaily n k h, days up mostDaily (lit≤ tt) n mostDays l, largest)

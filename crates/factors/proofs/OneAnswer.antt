@@ -39,7 +39,7 @@ fb-one c n a b =
     factor-one (LowGrowth c n) n (lowFactor (codeRow c .f2) (codeRow c .f4)) a b
     (λ x y. growth-one (LowDaily c) down n x y (greatest-one (λ (d : ℕ). multiplied up d 360 ≤ gb c)))
 
--- A number names one code at most: those from 0 to 3 do.
+-- The code of a number 0 to 3; of greater numbers nothing is asked.
 abbrev named : ℕ → Code
 named zero = FCI
 named (suc zero) = FPI
@@ -52,7 +52,7 @@ named-back FPI = refl
 named-back OFC = refl
 named-back OFV = refl
 
-number-most : (c : Code) → codeNumber c ≤ 3
+pub number-most : (c : Code) → codeNumber c ≤ 3
 number-most FCI = omega arith
 number-most FPI = omega arith
 number-most OFC = omega arith

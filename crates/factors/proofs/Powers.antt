@@ -40,8 +40,8 @@ module _ (s d : ℕ) (u : ℕ → ℕ) (start : u 0 ≡ s) where
       go : (p q x y : ℕ) → x * q ≤ s * p → y * s ≤ x * d → y * (q * s) ≤ s * (p * d)
       go p q x y h k = omega (arith, mul-le-mul-right d h, mul-le-mul-right q k)
 
--- Let m exact multiplications by d come to a, as g is to s, and n of them to x: then x to the power m is as g to the power
--- n. The first number of each pair is at most the second where its own two are, so that one law serves both ways.
+-- Where g is at most s × (d/s)^m and x at least s × (d/s)^n, g to the power n is at most x to the power m in the common scale
+-- (`high-power`); with both turned round, at least (`low-power`). `cancel` serves both.
 module _ (s d m n : ℕ) (some : 0 < s) where
   positive : 0 < (s ^ n) ^ m
   positive = one-le-pow m (s ^ n) (one-le-pow n s some)

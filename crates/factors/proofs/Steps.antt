@@ -4,9 +4,9 @@ use Prim.Native.Nat.{ℕ, zero, suc, _≤_, _<_}
 use mathlib.Core.Path.{_≡_, refl, ap₂, subst, sym, _∙_}
 use lib.Dec.{lit≤}
 use native.Mathlib.Omega.{arith}
-use Rattle.factors.proofs.FactorLimits.{high-daily, joinable, low-daily}
+use Rattle.factors.proofs.FactorLimits.{high-daily, formula-asked, low-daily}
 use Rattle.factors.specs.Factors.{FactorsAre, HighDaily, HighGrowth, LowDaily, LowGrowth, codeNumber, codeRow, down, highFactor, lowFactor, multiplied, up}
-use Rattle.factors.specs.Numbers.{Joinable, Multipliable, NumbersOf}
+use Rattle.factors.specs.Numbers.{FormulaAsked, GrowthAsked, NumbersOf}
 use Rattle.factors.specs.declared.Code.{Code}
 use Rattle.factors.specs.declared.FactorsAnswer.{FactorsAnswer}
 use Rattle.factors.specs.declared.FactorsAnswer.the-variants.{Factors}
@@ -14,16 +14,16 @@ use Rattle.factors.specs.declared.codes.CodeNumbers.{CodeNumbers}
 use Rattle.roots.specs.Roots.{Root, mostDays}
 
 module _ (c : Code) (r : CodeNumbers) (n : ℕ) (h : NumbersOf c r) (few : n ≤ mostDays) where
-  pub high-multipliable : (rounding : ℕ) → rounding ≤ up → Multipliable rounding (r .high) n
-  high-multipliable rounding l =
+  pub high-growth-asked : (rounding : ℕ) → rounding ≤ up → GrowthAsked rounding (r .high) n
+  high-growth-asked rounding l =
       record { rounding-most = l; daily-most = high-daily c (r .high) (h .high-is) .1; days-most = few }
 
-  pub low-multipliable : (rounding : ℕ) → rounding ≤ up → Multipliable rounding (r .low) n
-  low-multipliable rounding l =
+  pub low-growth-asked : (rounding : ℕ) → rounding ≤ up → GrowthAsked rounding (r .low) n
+  low-growth-asked rounding l =
       record { rounding-most = l; daily-most = low-daily c (r .low) (h .low-is) .1; days-most = few }
 
   -- The same of the code's own numbers, which are those of its row.
-  own : (x s : ℕ) → Joinable x s (codeRow c .f2) (codeRow c .f4) → Joinable x s (r .f2) (r .f4)
+  own : (x s : ℕ) → FormulaAsked x s (codeRow c .f2) (codeRow c .f4) → FormulaAsked x s (r .f2) (r .f4)
   own x s j =
       record {
         growth-least = j .growth-least;
@@ -40,11 +40,11 @@ module _ (c : Code) (r : CodeNumbers) (n : ℕ) (h : NumbersOf c r) (few : n ≤
     pub low-grown : x ≡ multiplied down (r .low) n → LowGrowth c n x
     low-grown e = record { daily = r .low; is-daily = h .low-is; is = e }
 
-    pub high-joinable : x ≡ multiplied up (r .high) n → Joinable x s (r .f2) (r .f4)
-    high-joinable e = own x s (joinable c (HighDaily c) up n x s (high-daily c) (lit≤ tt) few (high-grown e) q)
+    pub high-formula-asked : x ≡ multiplied up (r .high) n → FormulaAsked x s (r .f2) (r .f4)
+    high-formula-asked e = own x s (formula-asked c (HighDaily c) up n x s (high-daily c) (lit≤ tt) few (high-grown e) q)
 
-    pub low-joinable : x ≡ multiplied down (r .low) n → Joinable x s (r .f2) (r .f4)
-    low-joinable e = own x s (joinable c (LowDaily c) down n x s (low-daily c) (lit≤ tt) few (low-grown e) q)
+    pub low-formula-asked : x ≡ multiplied down (r .low) n → FormulaAsked x s (r .f2) (r .f4)
+    low-formula-asked e = own x s (formula-asked c (LowDaily c) down n x s (low-daily c) (lit≤ tt) few (low-grown e) q)
 
   pub factors-are : (x y s fa fb : ℕ) → Root n s → x ≡ multiplied up (r .high) n → y ≡ multiplied down (r .low) n
       → fa ≡ highFactor (r .f2) (r .f4) x s → fb ≡ lowFactor (r .f2) (r .f4) y s → FactorsAre (codeNumber c) n (Factors fa fb)
@@ -68,7 +68,7 @@ module _ (c : Code) (r : CodeNumbers) (n : ℕ) (h : NumbersOf c r) (few : n ≤
     },
   )
 
--- A number that was told to be a code's, and one that is none of them.
+-- A number that is known to be a code's, and one that is none of them.
 pub told-number : (j k n : ℕ) (a : FactorsAnswer) → k ≡ j → FactorsAre j n a → FactorsAre k n a
 told-number j k n a e h = subst (λ (x : ℕ). FactorsAre x n a) (sym e) h
 

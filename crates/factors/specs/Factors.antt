@@ -2,7 +2,7 @@
 -- greatest" are in `Roots` of crate roots.
 -- Units: the rate i/100, F1, F2 and F4 are whole numbers of 10^-4, S of 10^-6, rates and growth of 10^-8, fa and fb of 10^-6.
 -- As in document 01's definitions a difference x - y is 0 where y is greater. That is what "at least 0" says of fb; the two
--- other differences here take at most what is there (`FactorLimits.row-limits` and `spread-most`).
+-- other differences here take at most what is there (`FactorLimits.row-limits` and `f2-root-most`).
 use Prim.Native.Nat.{ℕ, zero, suc, _+_, _*_, _-_, _/_, _≤_, _<_}
 use mathlib.Core.Logic.{_⊎_}
 use mathlib.Core.Path.{_≡_}
@@ -20,7 +20,8 @@ codeNumber FPI = 1
 codeNumber OFC = 2
 codeNumber OFV = 3
 
--- A row of the circular's table: "the rate i/100, F1, F2 and F4 in 10^-4, so i is 2,100 for FCI". Its F3 is the series row's.
+-- A row of the circular's table: "the rate i/100, F1, F2 and F4 in 10^-4, so i is 2,100 for FCI". Its F3 is not used here: it is
+-- f3 of the series row.
 pub record CodeRow : Type 0 where
   pub i : ℕ
   pub f1 : ℕ

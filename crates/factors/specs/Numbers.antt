@@ -10,18 +10,18 @@ use Rattle.roots.specs.Roots.{mostDays}
 abbrev pub mostDaily : ℕ
 mostDaily = 100_064_307
 
--- No growth is greater.
+-- No growth of 0 to 1,800 days is greater: the largest is 318,088,479.
 abbrev pub mostGrowth : ℕ
 mostGrowth = 320_000_000
 
--- n multiplications by d.
-pub record Multipliable (rounding d n : ℕ) : Type 0 where
+-- What n multiplications by d require.
+pub record GrowthAsked (rounding d n : ℕ) : Type 0 where
   pub rounding-most : rounding ≤ up
   pub daily-most : d ≤ mostDaily
   pub days-most : n ≤ mostDays
 
--- A growth and a root, with F2 and F4.
-pub record Joinable (x s f2 f4 : ℕ) : Type 0 where
+-- What the formulas require of a growth, a root, F2 and F4.
+pub record FormulaAsked (x s f2 f4 : ℕ) : Type 0 where
   pub growth-least : one ≤ x
   pub growth-most : x ≤ mostGrowth
   pub root-most : s ≤ 2_236_068

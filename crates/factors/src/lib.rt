@@ -30,6 +30,7 @@ pub enum FactorsAnswer {
     NoFactors(Refusal, usize),
 }
 
+// The factors of a code.
 fn factors_of(code: Code, days: u64) -> FactorsAnswer
     requires { ⌜ days ≤ mostDays ⌝ }
     ensures { λ r. ⌜ FactorsAre (codeNumber code) days r ⌝ }

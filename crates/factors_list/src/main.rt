@@ -1,5 +1,5 @@
-// Prints, a line each, the factors of every code and number of days and the refusal of a day more; then those of a code that
-// is none and of the greatest numbers.
+// Prints, a line each, the factors of every code and number of days and the refusal of a day more; then the refusals of a code
+// that is not there and of the greatest numbers.
 use factors::FactorsAnswer;
 use factors::factors;
 use libc::STDOUT_FILENO;

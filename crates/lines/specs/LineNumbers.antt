@@ -1,5 +1,5 @@
--- Lines as plain numbers: three to a line, one line after the other. The first one has the kind and the second and third number
--- of document 01's five, which are small; the other two are its fourth and fifth.
+-- Lines as plain numbers: three to a line, one line after the other. The first number has the kind and the second and third
+-- number of document 01's five, which are small; the other two are its fourth and fifth.
 use Prim.Native.Nat.{ℕ, zero, suc, _+_, _*_, _/_, _%_, _≤_, _<_}
 use mathlib.Core.List.{List, [], _∷_, _++_}
 use mathlib.Core.Path.{_≡_}
@@ -16,7 +16,7 @@ numbersPerLine = 3
 abbrev pub mostNumbers : ℕ
 mostNumbers = numbersPerLine * mostLines
 
--- Kind, second and third number in one.
+-- Kind, second and third number in one: the kind has 2 bits of it, the second number 8, the third the rest.
 abbrev pub headOf : Line → ℕ
 headOf line = line .kind + line .secondNumber * 4 + line .thirdNumber * 1_024
 

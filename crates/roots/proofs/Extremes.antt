@@ -1,5 +1,6 @@
 -- The least number of which a rising test holds is known by itself and the one before it, the greatest number of which a
--- falling test holds by itself and the one after it; there is one least and one greatest number, and a least one of any test.
+-- falling test holds by itself and the one after it. There is at most one least and one greatest number, and a test that can be
+-- answered and holds of some number has a least one.
 -- Assumes nothing.
 use Prim.Native.Nat.{ℕ, zero, suc, _≤_, _<_}
 use mathlib.Core.Logic.{_⊎_, inl, inr}

@@ -19,7 +19,6 @@ mostDays = 1_800
 abbrev pub Reaches : ℕ → ℕ → Type 0
 Reaches n s = n * 1_000_000_000_000 ≤ s * s * 360
 
--- "S(n) is the least whole number with S × S × 360 ≥ n × 10^12". It is the square root of n days in years of 360, in
--- millionths.
+-- "S(n) is the least whole number with S × S × 360 ≥ n × 10^12". It is the square root of n / 360 in millionths, rounded up.
 abbrev pub Root : ℕ → ℕ → Type 0
 Root n s = Least (Reaches n) s

@@ -1,4 +1,4 @@
--- The refusals of a file are 1 to 11: 12 and later are those of a call, given after the file or without one.
+-- The refusals of a file end at 11: 12 and later are those of a call, given after the file or without one.
 -- Assumes nothing.
 use Prim.Native.Nat.{ℕ, _≤_}
 use mathlib.Core.Bool.{true, false}
@@ -13,11 +13,11 @@ use Rattle.rules.specs.declared.Fault.the-variants.{Found}
 use Rattle.rules.specs.declared.Refusal.{Refusal}
 
 -- Every refusal of the checks is numbered 11 at most.
-abbrev AllFiles : List Check → Type 0
-AllFiles [] = Unit {0}
-AllFiles ((test, w) ∷ later) = (number w ≤ 11) × AllFiles later
+abbrev NumbersMost : List Check → Type 0
+NumbersMost [] = Unit {0}
+NumbersMost ((test, w) ∷ later) = (number w ≤ 11) × NumbersMost later
 
-found-most : (l : List Check) → AllFiles l → (w : Refusal) → firstFault l ≡ Found w → number w ≤ 11
+found-most : (l : List Check) → NumbersMost l → (w : Refusal) → firstFault l ≡ Found w → number w ≤ 11
 unfolding refuse
 found-most [] h w e = let z : _≡_ {A = ℕ} 0 1 = cc in absurd (omega arith)
 found-most ((true, v) ∷ later) h w e = let p : v ≡ w = cc in omega (arith, h .0, ap number p)

@@ -5,7 +5,7 @@ use mathlib.Core.Logic.{_⊎_, inl, inr}
 use mathlib.Core.Path.{_≡_, refl, sym, ap, ap₂, subst, _∙_}
 use native.Mathlib.Omega.{arith}
 use Rattle.factors.proofs.FactorPromises.{fa-least, fa-most, fb-most}
-use Rattle.factors.proofs.OneAnswer.{answer-one, not-refused}
+use Rattle.factors.proofs.OneAnswer.{answer-one, not-refused, number-most}
 use Rattle.factors.specs.Factors.{Fa, FactorsAre, Fb, codeNumber}
 use Rattle.factors.specs.declared.Code.{Code}
 use Rattle.factors.specs.declared.FactorsAnswer.{FactorsAnswer}
@@ -29,7 +29,7 @@ pub record Given (k n : ℕ) (r : FactorNumbers) : Type 0 where
   pub fb-to : r .fb ≤ r .fa
 
 module _ (k n : ℕ) where
-  -- Two numbers are told one thing.
+  -- To a code and a number of days one answer is told.
   pub told-one : (r s : FactorNumbers) → FactorsTold k n r → FactorsTold k n s → r ≡ s
   told-one r s a b =
       a .is ∙ ap factorNumbers (answer-one k n (a .answer) (b .answer) (a .is-answer) (b .is-answer)) ∙ sym (b .is)
@@ -65,3 +65,12 @@ module _ (k n : ℕ) where
           )
       go (NoFactors w row) (inl l, _, _) e = absurd (omega arith)
       go (NoFactors w row) (inr l, _, _) e = absurd (omega arith)
+
+  -- The other way round: refusal 0 is told only with fa and fb.
+  pub told-zero : (r : FactorNumbers) → FactorsTold k n r → r .refusal ≡ 0 → Given k n r
+  told-zero r h z = go (h .answer) (h .is-answer) (h .is)
+    where
+      go : (a : FactorsAnswer) → FactorsAre k n a → r ≡ factorNumbers a → Given k n r
+      go (Factors fa fb) (c, i, few, x, y) e = told-given r h (omega (arith, i, number-most c)) few .1
+      go (NoFactors w row) (_, p, q) e =
+          absurd (omega (arith, z, ap (λ (s : FactorNumbers). s .refusal) e, ap number p))

@@ -75,8 +75,8 @@ fn answer_of(answer: AmountAnswer) -> Answer
     }
 }
 
-// Factors as numbers, the header's `serpentgleam_factors`: 0, 0, fa and fb in millionths; or the refusal's number, its row,
-// 0 and 0.
+// Factors as numbers, the header's `struct serpentgleam_factors`: 0, 0, fa and fb in millionths; or the refusal's number, its
+// row, 0 and 0.
 #[repr(C)]
 pub struct FactorNumbers {
     pub refusal: u64,

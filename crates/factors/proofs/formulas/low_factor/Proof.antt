@@ -1,26 +1,26 @@
 -- Every step fits, and no difference goes below 0.
 use borrow.Author.Needs.{needs}
 use native.Mathlib.Omega.{arith}
-use Rattle.factors.proofs.FactorLimits.{narrow-least, narrow-most, spread-most}
+use Rattle.factors.proofs.FactorLimits.{low-product-least, low-product-most, f2-root-most}
 use Rattle.factors.proofs.formulas.low_factor.Lts as lts
 use Rattle.factors.proofs.formulas.low_factor.Reads as reads
 use Rattle.factors.proofs.formulas.low_factor.Statement.{statement}
 use Rattle.factors.proofs.formulas.low_factor.Tie as tie
 
 mul-result : tie.Need-mul-result
-mul-result c = omega (arith, spread-most (c .args .growth) (c .args .s) (c .args .f2) (c .args .f4) (c .pre))
+mul-result c = omega (arith, f2-root-most (c .args .growth) (c .args .s) (c .args .f2) (c .args .f4) (c .pre))
 
 sub-result : tie.Need-sub-result
-sub-result c = omega (arith, spread-most (c .args .growth) (c .args .s) (c .args .f2) (c .args .f4) (c .pre))
+sub-result c = omega (arith, f2-root-most (c .args .growth) (c .args .s) (c .args .f2) (c .args .f4) (c .pre))
 
 mul-result-2 : tie.Need-mul-result-2
-mul-result-2 c = omega (arith, narrow-most (c .args .growth) (c .args .s) (c .args .f2) (c .args .f4) (c .pre))
+mul-result-2 c = omega (arith, low-product-most (c .args .growth) (c .args .s) (c .args .f2) (c .args .f4) (c .pre))
 
 mul-result-3 : tie.Need-mul-result-3
 mul-result-3 c = search needs
 
 sub-result-2 : tie.Need-sub-result-2
-sub-result-2 c = omega (arith, narrow-least (c .args .growth) (c .args .s) (c .args .f2) (c .args .f4) (c .pre))
+sub-result-2 c = omega (arith, low-product-least (c .args .growth) (c .args .s) (c .args .f2) (c .args .f4) (c .pre))
 
 returns : tie.Need-returns
 returns c = search needs

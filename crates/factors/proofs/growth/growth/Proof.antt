@@ -10,7 +10,7 @@ use Rattle.factors.proofs.growth.growth.Reads as reads
 use Rattle.factors.proofs.growth.growth.Statement.{statement}
 use Rattle.factors.proofs.growth.growth.Tie as tie
 use Rattle.factors.specs.Factors.{multiplied}
-use Rattle.factors.specs.Numbers.{Multipliable, mostGrowth}
+use Rattle.factors.specs.Numbers.{GrowthAsked, mostGrowth}
 
 abbrev Inv-loop : tie.InvT-loop
 Inv-loop rounding d n x₀ k₀ x k = (x ≡ multiplied rounding d k) × (k ≤ n)
@@ -19,7 +19,7 @@ abbrev μ-loop : tie.MeasureT-loop
 μ-loop rounding d n x₀ k₀ x k = n - k
 
 -- No product is greater than that of the largest growth and the largest daily factor.
-product-most : (r d n x k : ℕ) → Multipliable r d n → x ≡ multiplied r d k → k ≤ n → x * d ≤ 32_020_578_240_000_000
+product-most : (r d n x k : ℕ) → GrowthAsked r d n → x ≡ multiplied r d k → k ≤ n → x * d ≤ 32_020_578_240_000_000
 product-most r d n x k h e l =
     mul-le-mul {n₂ = mostGrowth}
     (omega (arith, e, growth-most r d k (h .rounding-most) (h .daily-most) (omega (arith, h .days-most)))) (h .daily-most)
