@@ -1,6 +1,6 @@
 -- A daily factor is the least, or the greatest, by what 360 multiplications by it and by its neighbour come to.
 -- Assumes nothing.
-use Prim.Native.Nat.{ℕ, zero, suc, _≤_, _<_}
+use Prim.Native.Nat.{ℕ, zero, suc, _≤_}
 use mathlib.Core.Bool.{Bool, false, _&&_}
 use mathlib.Core.Path.{_≡_, subst, sym}
 use lib.Dec.{T, leb, ltb, leb→le, lit≤, ltb→lt}

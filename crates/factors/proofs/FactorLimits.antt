@@ -3,11 +3,11 @@
 use Prim.Native.Nat.{ℕ, _+_, _*_, _-_, _≤_, _<_}
 use mathlib.Core.Logic.{_⊎_, inl, inr}
 use lib.Dec.{lit≤, lit<}
-use native.Mathlib.Nat.{mul-le-mul, mul-le-mul-left, mul-le-mul-right}
+use native.Mathlib.Nat.{mul-le-mul}
 use native.Mathlib.Omega.{arith}
 use Rattle.factors.proofs.Multiplied.{days, growth-most, one-least, rises}
 use Rattle.factors.specs.Factors.{Growth, HighDaily, LowDaily, codeRow, down, ga, gb, multiplied, one, up}
-use Rattle.factors.specs.Numbers.{FormulaAsked, mostDaily, mostGrowth}
+use Rattle.factors.specs.Numbers.{FormulaAsked, mostDaily}
 use Rattle.factors.specs.declared.Code.{Code}
 use Rattle.factors.specs.declared.Code.the-variants.{FCI, FPI, OFC, OFV}
 use Rattle.numbers.proofs.Order.{split}

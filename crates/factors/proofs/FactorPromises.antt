@@ -1,6 +1,6 @@
 -- What users cite of the factors: the growth against the rates, and the limits of fa and fb.
 -- Assumes nothing.
-use Prim.Native.Nat.{ℕ, _+_, _*_, _-_, _/_, _^_, _≤_, _<_}
+use Prim.Native.Nat.{ℕ, _+_, _*_, _-_, _/_, _^_, _≤_}
 use mathlib.Core.Path.{_≡_, refl, ap}
 use lib.Dec.{lit≤, lit<}
 use native.Mathlib.Nat.{le-trans, mul-le-mul, mul-le-mul-right}
@@ -84,9 +84,10 @@ module _ (c : Code) (n fa : ℕ) (few : n ≤ mostDays) (h : Fa c n fa) where
       (low-most (k .growth * (10_000_000_000 - codeRow c .f2 * h .root)) (h .growth * (10_000_000_000 + codeRow c .f2 * h .root)) (codeRow c .f4)
       (mul-le-mul grown (omega arith)))
 
-  -- "so that a series row made of them keeps its limits": any series row within document 01's limits is still within them,
-  -- and has no fault, with fa and fb in place of its own, which are not looked at.
-  module _ (fb : ℕ) (k : Fb c n fb) (r : SeriesRow) (w : SeriesWithin r) where
+  -- "so that a series row made of them keeps its limits": where the other fields of a row keep document 01's limits, which is
+  -- that the row does with fa 1,000,000 and fb 0, the row with these fa and fb keeps them and has no fault. Its own are not
+  -- looked at.
+  module _ (fb : ℕ) (k : Fb c n fb) (r : SeriesRow) (w : SeriesWithin (withFactors r 1_000_000 0)) where
     pub series-within : SeriesWithin (withFactors r fa fb)
     series-within =
         record {

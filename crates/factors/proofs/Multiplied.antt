@@ -1,6 +1,6 @@
 -- Multiplications by a daily factor, each rounded: they rise with the rounding, the factor and their number.
 -- Assumes nothing.
-use Prim.Native.Nat.{ℕ, zero, suc, _+_, _*_, _-_, _/_, _≤_, _<_, zero-le}
+use Prim.Native.Nat.{ℕ, zero, suc, _+_, _*_, _-_, _/_, _≤_, zero-le}
 use lib.Dec.{lit≤}
 use native.Mathlib.Nat.{add-sub-of-le, add-suc, add-zero, mul-le-mul, mul-le-mul-left}
 use native.Mathlib.Omega.{arith}

@@ -14,7 +14,6 @@ use Rattle.numbers.proofs.Order.{split}
 use Rattle.roots.proofs.Extremes.{greatest-one, least-one}
 use Rattle.roots.proofs.Squares.{root-some}
 use Rattle.roots.specs.Roots.{Reaches, mostDays}
-use Rattle.rules.specs.declared.Refusal.{Refusal}
 use Rattle.rules.specs.declared.Refusal.the-variants.{FactorsAskedFor}
 
 -- Of one daily factor there is one growth, and of one growth one factor.

@@ -33,18 +33,18 @@ module _ (c : Code) (r : CodeNumbers) (n : ℕ) (h : NumbersOf c r) (few : n ≤
         f4-most = subst (λ (y : ℕ). y ≤ 1_500) (sym (h .f4-is)) (j .f4-most);
       }
 
+  high-grown : (x : ℕ) → x ≡ multiplied up (r .high) n → HighGrowth c n x
+  high-grown x e = record { daily = r .high; is-daily = h .high-is; is = e }
+
+  low-grown : (x : ℕ) → x ≡ multiplied down (r .low) n → LowGrowth c n x
+  low-grown x e = record { daily = r .low; is-daily = h .low-is; is = e }
+
   module _ (x s : ℕ) (q : Root n s) where
-    pub high-grown : x ≡ multiplied up (r .high) n → HighGrowth c n x
-    high-grown e = record { daily = r .high; is-daily = h .high-is; is = e }
-
-    pub low-grown : x ≡ multiplied down (r .low) n → LowGrowth c n x
-    low-grown e = record { daily = r .low; is-daily = h .low-is; is = e }
-
     pub high-formula-asked : x ≡ multiplied up (r .high) n → FormulaAsked x s (r .f2) (r .f4)
-    high-formula-asked e = own x s (formula-asked c (HighDaily c) up n x s (high-daily c) (lit≤ tt) few (high-grown e) q)
+    high-formula-asked e = own x s (formula-asked c (HighDaily c) up n x s (high-daily c) (lit≤ tt) few (high-grown x e) q)
 
     pub low-formula-asked : x ≡ multiplied down (r .low) n → FormulaAsked x s (r .f2) (r .f4)
-    low-formula-asked e = own x s (formula-asked c (LowDaily c) down n x s (low-daily c) (lit≤ tt) few (low-grown e) q)
+    low-formula-asked e = own x s (formula-asked c (LowDaily c) down n x s (low-daily c) (lit≤ tt) few (low-grown x e) q)
 
   pub factors-are : (x y s fa fb : ℕ) → Root n s → x ≡ multiplied up (r .high) n → y ≡ multiplied down (r .low) n
       → fa ≡ highFactor (r .f2) (r .f4) x s → fb ≡ lowFactor (r .f2) (r .f4) y s → FactorsAre (codeNumber c) n (Factors fa fb)
@@ -54,14 +54,14 @@ module _ (c : Code) (r : CodeNumbers) (n : ℕ) (h : NumbersOf c r) (few : n ≤
     few,
     record {
       growth = x;
-      is-growth = high-grown x s q a;
+      is-growth = high-grown x a;
       root = s;
       is-root = q;
       is = i ∙ ap₂ (λ (f2 f4 : ℕ). highFactor f2 f4 x s) (h .f2-is) (h .f4-is);
     },
     record {
       growth = y;
-      is-growth = low-grown y s q b;
+      is-growth = low-grown y b;
       root = s;
       is-root = q;
       is = j ∙ ap₂ (λ (f2 f4 : ℕ). lowFactor f2 f4 y s) (h .f2-is) (h .f4-is);

@@ -41,9 +41,6 @@ module _ (l : List ℕ) (n a b c : ℕ) (long : n + numbersPerLine ≤ length l)
 
 -- The head has all three numbers.
 module _ (line : Line) (h : Packable line) where
-  pub head-most : headOf line ≤ 102_401_023
-  head-most = omega (arith, h .kind-most, h .second-most, h .third-most)
-
   head-kind : headOf line % 4 ≡ line .kind
   head-kind = omega (arith, h .kind-most, h .second-most, h .third-most)
 

@@ -1,7 +1,7 @@
--- S(n) by two products, one that reaches and one that does not; and by counting up.
+-- S(n) by two products, one that reaches and one that does not; its limit, and that every n has one.
 -- Assumes nothing.
-use Prim.Native.Nat.{ℕ, zero, suc, _+_, _*_, _≤_, _<_}
-use mathlib.Core.Bool.{Bool, true, _&&_}
+use Prim.Native.Nat.{ℕ, zero, suc, _*_, _≤_, _<_}
+use mathlib.Core.Bool.{Bool, _&&_}
 use mathlib.Core.Logic.{_⊎_, inl, inr}
 use lib.Dec.{T, leb, ltb, leb→le, lit≤, ltb→lt}
 use native.Mathlib.Nat.{mul-le-mul}

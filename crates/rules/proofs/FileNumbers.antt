@@ -8,7 +8,6 @@ use native.Mathlib.Omega.{arith}
 use Rattle.rules.proofs.Reading.{FirstFault, in-positions, in-series, in-trailer, refused-first}
 use Rattle.rules.specs.File.{layout, positionRow, seriesRow}
 use Rattle.rules.specs.Refusals.{Check, firstFault, meaning, number, positionRowChecks, positionRowFault, refuse, refused, seriesRowChecks, seriesRowFault, trailerChecks, trailerFault}
-use Rattle.rules.specs.declared.Fault.{Fault}
 use Rattle.rules.specs.declared.Fault.the-variants.{Found}
 use Rattle.rules.specs.declared.Refusal.{Refusal}
 

@@ -1,7 +1,6 @@
 use Rattle.factors.proofs.Steps.{above-three, told-number}
 use Rattle.factors.proofs.factors.Statement.{statement}
 use Rattle.factors.proofs.factors.Tie as tie
-use Rattle.rules.specs.declared.Refusal.the-variants.{FactorsAskedFor}
 use borrow.Author.Needs.{needs}
 use mathlib.Core.Logic.{inl, inr}
 use mathlib.Core.Path.{refl}

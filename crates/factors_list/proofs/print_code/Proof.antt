@@ -3,9 +3,6 @@ use Prim.Native.Nat.{_-_, _≤_}
 use borrow.Author.Needs.{needs}
 use Rattle.factors_list.proofs.print_code.Statement.{statement}
 use Rattle.factors_list.proofs.print_code.Tie as tie
-use Rattle.factors_list.proofs.print_code.Reads as reads
-use Rattle.factors_list.proofs.print_code.Lts as lts
-use Rattle.factors_list.proofs.print_factors.Reads as print-factors-reads
 
 abbrev Inv-loop : tie.InvT-loop
 Inv-loop code days₀ days = days ≤ 1_802

@@ -6,11 +6,6 @@ use Rattle.roots.proofs.Squares.{root-by}
 use Rattle.roots.specs.Roots.{Root, mostDays}
 use Rattle.roots_table.proofs.main.Statement.{statement}
 use Rattle.roots_table.proofs.main.Tie as tie
-use Rattle.roots_table.proofs.main.Reads as reads
-use Rattle.roots_table.proofs.main.Lts as lts
-use Rattle.io.proofs.write_all.Reads as write-all-reads
-use Rattle.roots_table.proofs.next_root.Reads as next-root-reads
-use Rattle.roots_table.proofs.print_entry.Reads as print-entry-reads
 
 abbrev Inv-loop : tie.InvT-loop
 Inv-loop s₀ n₀ t4 s n = Root n s

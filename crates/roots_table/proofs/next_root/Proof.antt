@@ -2,8 +2,6 @@
 use Prim.Native.Nat.{_+_, _-_}
 use native.Mathlib.Omega.{arith}
 use Rattle.roots_table.proofs.Counting.{NoneBelow, below-most, next-day, next-number, square-most}
-use Rattle.roots_table.proofs.next_root.Lts as lts
-use Rattle.roots_table.proofs.next_root.Reads as reads
 use Rattle.roots_table.proofs.next_root.Statement.{statement}
 use Rattle.roots_table.proofs.next_root.Tie as tie
 

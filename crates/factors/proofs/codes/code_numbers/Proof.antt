@@ -2,8 +2,6 @@
 use mathlib.Core.Path.{refl}
 use borrow.Author.Needs.{needs}
 use Rattle.factors.proofs.Daily.{numbers-of}
-use Rattle.factors.proofs.codes.code_numbers.Lts as lts
-use Rattle.factors.proofs.codes.code_numbers.Reads as reads
 use Rattle.factors.proofs.codes.code_numbers.Statement.{statement}
 use Rattle.factors.proofs.codes.code_numbers.Tie as tie
 use Rattle.factors.specs.Factors.{multiplied}

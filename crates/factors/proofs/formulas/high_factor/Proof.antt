@@ -2,8 +2,6 @@
 use borrow.Author.Needs.{needs}
 use native.Mathlib.Omega.{arith}
 use Rattle.factors.proofs.FactorLimits.{f2-root-most, high-product-most}
-use Rattle.factors.proofs.formulas.high_factor.Lts as lts
-use Rattle.factors.proofs.formulas.high_factor.Reads as reads
 use Rattle.factors.proofs.formulas.high_factor.Statement.{statement}
 use Rattle.factors.proofs.formulas.high_factor.Tie as tie
 

@@ -2,8 +2,6 @@
 use borrow.Author.Needs.{needs}
 use native.Mathlib.Omega.{arith}
 use Rattle.factors.proofs.FactorLimits.{low-product-least, low-product-most, f2-root-most}
-use Rattle.factors.proofs.formulas.low_factor.Lts as lts
-use Rattle.factors.proofs.formulas.low_factor.Reads as reads
 use Rattle.factors.proofs.formulas.low_factor.Statement.{statement}
 use Rattle.factors.proofs.formulas.low_factor.Tie as tie
 

@@ -5,8 +5,6 @@ use native.Mathlib.Nat.{mul-le-mul}
 use native.Mathlib.Numerals.{add-one}
 use native.Mathlib.Omega.{arith}
 use Rattle.factors.proofs.Multiplied.{growth-most}
-use Rattle.factors.proofs.growth.growth.Lts as lts
-use Rattle.factors.proofs.growth.growth.Reads as reads
 use Rattle.factors.proofs.growth.growth.Statement.{statement}
 use Rattle.factors.proofs.growth.growth.Tie as tie
 use Rattle.factors.specs.Factors.{multiplied}
