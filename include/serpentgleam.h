@@ -25,7 +25,7 @@
 #include <stdint.h>
 
 /* The version of this header and of the library that it came with. */
-#define SERPENTGLEAM_VERSION "0.3.0"
+#define SERPENTGLEAM_VERSION "0.4.0"
 #define SERPENTGLEAM_VERSION_MAJOR 0
 #define SERPENTGLEAM_VERSION_MINOR 3
 #define SERPENTGLEAM_VERSION_PATCH 0

@@ -1,7 +1,6 @@
 """Misreadings of who may pair and of the unit spread margin; the form of a table is told in misreadings.py."""
 ACCOUNT, PAIRING, SPREAD = 'account.rs', 'pairing.rs', 'spread.rs'
 ALLOWED = 'if alone > spread {'
-LIMITER_BARS = 'if held.limiter != Limiter::Absent || written.limiter != Limiter::Absent {'
 EITHER_FLAG = 'self.european || self.opened_before_annex'
 BOTH_MAY = 'let both_may = w.european_or_before_annex() && h.european_or_before_annex();'
 BOTH_ALIKE = 'let both_may = w.european && h.european || w.opened_before_annex && h.opened_before_annex;'
@@ -47,9 +46,6 @@ WHO_MAY_PAIR = [
     ('any series', 'rows of different series pair', pairing(SAME_SERIES, 'let same_series = true;')),
     ('flag 1 not applied to pairs', 'a row already knocked in compared with its barrier',
      pairing(TERMS, TERMS_BEFORE_FLAG_1)),
-    ('limiters do not bar', 'rows with a limiter pair like others', spread(LIMITER_BARS, 'if false {')),
-    ('two limiters bar', 'the pair barred only where both rows have a limiter',
-     spread(LIMITER_BARS, LIMITER_BARS.replace('||', '&&'))),
     ('ODh at least ODw', 'the order of down barriers turned round', spread(OD_ORDER, 'if od_held >= od_written')),
     ('ODh below ODw', 'equal down barriers do not pair', spread(OD_ORDER, 'if od_held < od_written')),
     ('OUh at most OUw', 'the order of up barriers turned round', spread(OU_ORDER, 'if ou_held <= ou_written')),

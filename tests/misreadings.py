@@ -18,6 +18,7 @@ from collections import namedtuple
 
 import misread_factors
 import misread_file
+import misread_limiters
 import misread_no_positions
 import misread_order
 import misread_pairs
@@ -32,7 +33,8 @@ Noticing = namedtuple('Noticing', 'what program given parts_of expected tables')
 
 MODULES = ['account', 'factors', 'factors_list', 'lines', 'output', 'pairing', 'position', 'position_row', 'reader',
            'spread']
-TABLES = [misread_positions, misread_spreads, misread_pairs, misread_file, misread_no_positions, misread_order]
+TABLES = [misread_positions, misread_spreads, misread_limiters, misread_pairs, misread_file, misread_no_positions,
+          misread_order]
 
 
 def by_accounts():

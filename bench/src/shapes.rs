@@ -21,7 +21,7 @@ const fn shape(name: &'static str, pairs: bool, series: usize, change: Change) -
     Shape { name, pairs, series, change }
 }
 
-pub const SHAPES: [Shape; 15] = [
+pub const SHAPES: [Shape; 19] = [
     shape("one strike for all", true, 1, |_, _, _, row| row.strike = 3100),
     shape("random strikes", true, 1, |_, _, _, _| ()),
     shape("ascending strikes", true, 1, |_, i, _, row| row.strike = 2900 + i),
@@ -49,7 +49,28 @@ pub const SHAPES: [Shape; 15] = [
             row.rebate = 1 + i;
         }
     }),
+    shape("limiters that pair", true, 1, |_, i, _, row| {
+        *row = row.with_limiter(row.strike + 1 + i);
+    }),
+    shape("limiters, all but one barred", true, 1, |random, i, n, row| {
+        // The last held row has none.
+        if row.side == WRITTEN || i + 2 < n {
+            limiters(random, i, n, row);
+        }
+    }),
+    shape("hostile limiters", true, 1, |random, i, n, row| {
+        limiters(random, i, n, row);
+        if i == 0 {
+            // The nearest of all: every held row can pair with this one.
+            *row = row.with_limiter(3300);
+        }
+    }),
     shape("nothing pairs: limiters", false, 1, limiters),
+    shape("nothing pairs: held rows limited", false, 1, |random, i, n, row| {
+        if row.side == HELD {
+            limiters(random, i, n, row);
+        }
+    }),
     shape("nothing pairs: knocked in", false, 1, |random, i, n, row| {
         limiters(random, i, n, row);
         *row = row.with_barrier(UP_AND_IN, 3300, 0).knocked_in();
@@ -74,9 +95,9 @@ fn random_barrier(random: &mut Random, row: PositionDraft) -> PositionDraft {
     row.with_barrier(kind, price, random.between(0, 99) as u32)
 }
 
-/// A limiter of its own on each row.
+/// A limiter of its own on each row, every held one nearer than every written one.
 fn limiters(_: &mut Random, i: u32, _: u32, row: &mut PositionDraft) {
-    *row = row.with_limiter(row.strike + 1 + i);
+    *row = row.with_limiter(if row.side == WRITTEN { 3600 + i } else { 3300 + i });
 }
 
 /// All written rows at one strike with 100,000 contracts, held rows above them with 1 to 3.

@@ -4,7 +4,7 @@ use reference::factors::factors;
 use reference::factors_list::codes_and_days;
 use reference::lines::{margin_into, margin_into_by, Entry, Pairing};
 use reference::random::Random;
-use reference::sample::{sample_account, Shape};
+use reference::sample::{limited_alike, sample_account, Shape};
 
 use crate::factors::Tables;
 use crate::shapes::{account, SHAPES};
@@ -59,9 +59,13 @@ fn on_random_accounts() {
         ("one series", crowded, 100),
         ("256 rows", most, 20),
     ] {
-        let files = (0..count).map(|_| sample_account(&mut random, &shape).bytes());
-        let pairs: usize = files.map(|file| pairs_made(&file, name)).sum();
-        assert!(pairs > count, "{name}: {pairs} pairs");
+        let mut pairs = 0;
+        for _ in 0..count {
+            let draft = sample_account(&mut random, &shape);
+            pairs += pairs_made(&draft.bytes(), name);
+            pairs += pairs_made(&limited_alike(&mut random, draft).bytes(), name);
+        }
+        assert!(pairs > 2 * count, "{name}: {pairs} pairs");
     }
 }
 

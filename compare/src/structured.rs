@@ -1,8 +1,9 @@
-//! Accepted accounts of various shapes, with cover sheets.
+//! Accepted accounts of various shapes, with cover sheets. In many of them limiters stand at and
+//! beside each other.
 
 use reference::draft::Draft;
 use reference::random::Random;
-use reference::sample::{sample_account, sample_series, Shape};
+use reference::sample::{limited_alike, sample_account, sample_series, Shape};
 
 use crate::files::{random_bytes, weighted, LONGEST_FILE};
 
@@ -60,6 +61,9 @@ pub fn structured_draft(random: &mut Random) -> (&'static str, Draft) {
     let (name, mut shape) = weighted(random, &SHAPES);
     shape.fb_above_one = random.chance(50);
     let mut draft = sample_account(random, &shape);
+    if random.chance(40) {
+        draft = limited_alike(random, draft);
+    }
     draft.cover = cover_sheet(random, &draft, &shape);
     (name, draft)
 }

@@ -1,8 +1,8 @@
 //! The files are what they are meant to be, and the comparison finds changed answers.
 
-use std::collections::BTreeSet;
+use std::collections::{BTreeMap, BTreeSet};
 
-use reference::account::Account;
+use reference::account::{Account, Limiter, OptionType};
 use reference::lines::margin;
 use reference::reader::{distance, read_account};
 
@@ -103,6 +103,43 @@ fn structured_files_are_accepted_and_various() {
 
 fn has_cover(file: &File, account: &Account) -> bool {
     file.bytes.len() > distance(account.series.len(), account.positions.len())
+}
+
+/// How the limiters of a pair stand to each other.
+fn limiters(option_type: OptionType, held: Limiter, written: Limiter) -> &'static str {
+    match (held, written) {
+        (Limiter::Absent, Limiter::Absent) => "none",
+        (Limiter::Absent, Limiter::At(_)) => "written row alone",
+        (Limiter::At(_), Limiter::Absent) => "held row alone",
+        (Limiter::At(h), Limiter::At(w)) => match (option_type, h - w) {
+            (_, 0) => "equal",
+            (OptionType::Call, 1) | (OptionType::Put, -1) => "held one farther",
+            (OptionType::Call, 2..) | (OptionType::Put, ..=-2) => "held much farther",
+            _ => "held nearer",
+        },
+    }
+}
+
+/// In pairs of different rows.
+#[test]
+fn limiters_stand_on_both_sides_of_pairs() {
+    let mut found: BTreeMap<&str, usize> = BTreeMap::new();
+    for file in files_of(Family::Structured, 3_000) {
+        let account = read_account(&file.bytes).expect("accepted");
+        for pair in margin(&account).pairs {
+            let [held, written] = [pair.held, pair.written].map(|r| account.positions[r].terms());
+            let option_type = account.series_of(pair.held).option_type;
+            if held != written {
+                let limiters = limiters(option_type, held.limiter, written.limiter);
+                *found.entry(limiters).or_default() += 1;
+            }
+        }
+    }
+    for limiters in ["none", "written row alone", "equal", "held one farther", "held much farther"]
+    {
+        assert!(found.remove(limiters) > Some(100), "{limiters}");
+    }
+    assert_eq!(found, BTreeMap::new());
 }
 
 #[test]

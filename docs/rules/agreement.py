@@ -5,7 +5,7 @@ from .terms import rows_from
 
 
 class Differs(Exception):
-    """The product does not answer what document 01 says by the hand arithmetic."""
+    """The product does not answer what documents 01 and 02 say by the hand arithmetic."""
 
 
 def same(what, product, hand):

@@ -85,6 +85,8 @@ def pair_lines(written, held):
     if strangers:
         return [f'row {strangers[0]} is neither European nor opened before the annex: no pair']
     spread = unit_spread(written, held)
+    if spread.value is None:
+        return [*spread.tests, 'barred: no pair']
     verdict, arithmetic = compared(written, spread)
     return [*spread.tests, *spread.payoff, f'spread margin = {spread.result} ticks',
             f'written unit margin = {unit_margin(written).result} ticks; {verdict}', f'amount = {arithmetic} centavos']

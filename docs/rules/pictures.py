@@ -17,6 +17,8 @@ PICTURES = {  # name: what it shows, series, rows
     'down_and_out': ('Down-and-out put', 'put', 'written Q=10 PE=2900 down-and-out=2500 REB=40 european'),
     'spread': ('Spread of two calls', 'call',
                'written Q=10 PE=3100 european\nheld Q=10 PE=3250 european'),
+    'limited_spread': ('Spread of two calls with limiters', 'call',
+                       'written Q=10 PE=3100 PB=3400 european\nheld Q=10 PE=3250 PB=3500 european'),
 }
 
 
@@ -128,6 +130,7 @@ def spread_picture(title, written, held):
     margins = [ticks(unit_spread(written, held).value), ticks(unit_margin(written).value)]
     same(title, margins, [max(loss for _, loss in curve.points()) for curve in lines])
     marks = [('PEw', written.PE, 0), ('PEh', held.PE, 1)]
+    marks += [(name, row.PB, depth) for name, row, depth in (('PBw', written, 0), ('PBh', held, 1)) if row.PB]
     return drawn(title, written.series, lines, margins, marks, beyond=True)
 
 

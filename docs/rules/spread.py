@@ -1,4 +1,9 @@
-"""The unit spread margin of a held and a written row, worked out by hand from document 01, Pairs."""
+"""The unit spread margin of a held and a written row, worked out by hand from document 01, Pairs, with document 02 [3]:
+
+"A limiter no longer bars a pair when the held row has none, or when both have one and the held one is not nearer: PBh ≥
+PBw for calls, PBh ≤ PBw for puts. The spread formulas are those in force. A held limiter against an unlimited written
+row still bars it."
+"""
 from .terms import after_flag_1, fine, shown
 from .unit import Working, largest
 
@@ -89,14 +94,30 @@ def barriers_in_order(written, held, lines):
     return allowed
 
 
+def limiters_in_order(written, held, lines):
+    """Whether the held row has no limiter, or both have one and the held one is not nearer. A put's 0 is a limiter."""
+    if held.PB is None:
+        lines.extend([] if written.PB is None else ['a limiter on the written row alone'])
+        return True
+    if written.PB is None:
+        lines.append('a limiter on the held row alone')
+        return False
+    if written.series.type == 'call':
+        allowed, signs = held.PB >= written.PB, '≥<'
+    else:
+        allowed, signs = held.PB <= written.PB, '≤>'
+    lines.append(f'PBh = {held.PB} {signs[0 if allowed else 1]} PBw = {written.PB}')
+    return allowed
+
+
 def unit_spread(written, held):
     """The unit spread margin of two rows, its value None where they are barred."""
     tests = [f'row {row.number} already knocked in: no barrier, REB = 0' for row in (written, held) if row.knocked_in]
     written, held = after_flag_1(written), after_flag_1(held)
     if terms(written) == terms(held):
         return Working(0, tests + ['same PE, limiter, barrier and REB'], [], '0')
-    if written.PB is not None or held.PB is not None:
-        return Working(None, tests + ['not the same, and a limiter'], [], 'barred')
+    if not limiters_in_order(written, held, tests):
+        return Working(None, tests, [], 'barred')
     if written.kind is None and held.kind is None:
         value, result = plain_spread(written, held)
         return Working(value, tests + ['no barriers'], [], result)

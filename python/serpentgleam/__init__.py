@@ -14,6 +14,6 @@ from .codes import CODES
 from .engine import factors, factors_or_refusal, margin, margin_or_refusal, position_amount
 from .library import NotFound
 
-__version__ = '0.3.0'
+__version__ = '0.4.0'
 __all__ = ['CODES', 'REASONS', 'Factors', 'Left', 'Margin', 'NotFound', 'Pair', 'Refusal', 'Refused', 'factors',
            'factors_or_refusal', 'margin', 'margin_or_refusal', 'position_amount']

@@ -8,11 +8,12 @@ import subprocess
 import sys
 import unittest
 
-from support import DOCUMENT, TOP, VECTORS, WRONG_SIDE, bytes_of, folder, long_account, written
+from support import DOCUMENT, SERIES_TEXT, TOP, VECTORS, WRONG_SIDE, bytes_of, folder, long_account, written
 
 import serpentgleam
 from serpentgleam import Left, Margin, Pair, Refusal, Refused, engine
 from serpentgleam.library import NAME, VARIABLE
+from serpentgleam.text import file_from_text
 
 THREE_ROWS = Margin((Pair(0, 2, 3, 0), Pair(0, 1, 4, 3000)), (Left(0, 3, 7500),), 300, 10_800)
 
@@ -54,6 +55,58 @@ class Answers(unittest.TestCase):
         with concurrent.futures.ThreadPoolExecutor(8) as threads:
             together = list(threads.map(serpentgleam.margin_or_refusal, files))
         self.assertEqual(together, [serpentgleam.margin_or_refusal(data) for data in files])
+
+
+class Limiters(unittest.TestCase):
+    """Limiters inside a spread: docs/RULES.md, section 6.4. Row 0 is written, row 1 held, both of 10 contracts."""
+
+    def check(self, kind, written_row, held_row, amount, pair):
+        """The amount of the written row by itself, and that of its pair with the held one, None where there is none."""
+        rows = f'written Q=10 {written_row} european\nheld Q=10 {held_row} european\n'
+        data = file_from_text((SERIES_TEXT.replace('call', kind) + rows).encode())
+        self.assertEqual(serpentgleam.position_amount(data, 0), amount)
+        apart = Margin((), (Left(0, 10, amount), Left(1, 10, 0)), 0, amount)
+        expected = apart if pair is None else Margin((Pair(0, 1, 10, pair),), (), 0, pair)
+        self.assertEqual(serpentgleam.margin(data), expected)
+
+    def test_calls_around_the_written_limiter(self):
+        for price, pair in ((3299, None), (3300, 2_500), (3301, 2_500), (10_000_000, 2_500)):
+            self.check('call', 'PE=3100 PB=3300', f'PE=3150 PB={price}', 10_000, pair)
+
+    def test_puts_around_the_written_limiter(self):
+        for price, pair in ((2901, None), (2900, 4_000), (2899, 4_000), (0, 4_000)):
+            self.check('put', 'PE=3200 PB=2900', f'PE=3120 PB={price}', 15_000, pair)
+
+    def test_a_limiter_on_one_row(self):
+        self.check('call', 'PE=3100 PB=3300', 'PE=3150', 10_000, 2_500)
+        self.check('call', 'PE=3100', 'PE=3150 PB=10000000', 25_000, None)
+        self.check('put', 'PE=3200 PB=2900', 'PE=3120', 15_000, 4_000)
+        self.check('put', 'PE=3200', 'PE=3120 PB=1', 40_000, None)
+
+    def test_a_limiter_of_zero(self):
+        for written_row, held_row, pair in (('PB=0', 'PB=0', 4_000), ('PB=1', 'PB=0', 4_000), ('PB=0', 'PB=1', None),
+                                            ('PB=0', '', 4_000), ('', 'PB=0', None)):
+            self.check('put', f'PE=3200 {written_row}', f'PE=3120 {held_row}', 40_000, pair)
+        self.check('put', 'PE=3200', 'PE=3200 PB=0', 40_000, None)
+
+    def test_knock_outs(self):
+        row = 'PE=3100 PB=3300 down-and-out=2400 REB=60'
+        for price, pair in ((3299, None), (3300, 3_000), (3301, 3_000)):
+            self.check('call', row, f'PE=3000 PB={price} down-and-out=2300 REB=60', 10_000, pair)
+        self.check('call', row, 'PE=3000 down-and-out=2400 REB=25', 10_000, 1_750)
+
+    def test_knock_ins(self):
+        row = 'PE=3100 PB=3300 up-and-in=3500 REB=40'
+        self.check('call', row, row, 10_000, 0)
+        self.check('call', row, row.replace('3300', '3301'), 10_000, None)
+        self.check('call', row + ' knocked-in', row.replace('3300', '3301') + ' knocked-in', 10_000, 0)
+        self.check('call', 'PE=3100', row + ' knocked-in', 25_000, None)
+
+    def test_a_barred_pair_is_passed_over(self):
+        rows = ('written Q=10 PE=3100 PB=3300 european\nheld Q=4 PE=3110 PB=3299 premium=20 european\n'
+                'held Q=4 PE=3120 european\nheld Q=4 PE=3130 PB=3300 european\n')
+        self.assertEqual(serpentgleam.margin(file_from_text((SERIES_TEXT + rows).encode())), Margin(
+            (Pair(0, 2, 4, 400), Pair(0, 3, 4, 600)), (Left(0, 2, 2_000), Left(1, 4, 0)), 400, 3_400))
 
 
 class Docstrings(unittest.TestCase):

@@ -52,7 +52,7 @@ class RoundTrip(unittest.TestCase):
                 self.assertEqual(file_from_text(text_beside(path)), bytes_of(path))
 
     def test_vectors(self):
-        self.assertEqual(len(VECTORS), 1400)
+        self.assertEqual(len(VECTORS), 1460)
         for data, _ in LAID_OUT:
             self.check(data)
 

@@ -11,8 +11,7 @@ pub fn unit_spread_margin(series: &Series, held: &Terms, written: &Terms) -> Opt
     if held == written {
         return Some(0);
     }
-    // The circular counts limiting devices as barriers.
-    if held.limiter != Limiter::Absent || written.limiter != Limiter::Absent {
+    if limiters_bar(series.option_type, held.limiter, written.limiter) {
         return None;
     }
     match (held.barrier, written.barrier) {
@@ -42,6 +41,21 @@ pub fn unit_spread_margin(series: &Series, held: &Terms, written: &Terms) -> Opt
         }
         // Nothing else pairs.
         _ => None,
+    }
+}
+
+/// Document 02 [3]: "A limiter no longer bars a pair when the held row has none,
+/// or when both have one and the held one is not nearer: PBh ≥ PBw for calls,
+/// PBh ≤ PBw for puts. [...] A held limiter against an unlimited written row
+/// still bars it."
+fn limiters_bar(option_type: OptionType, held: Limiter, written: Limiter) -> bool {
+    match (held, written) {
+        (Limiter::Absent, _) => false,
+        (Limiter::At(_), Limiter::Absent) => true,
+        (Limiter::At(pb_held), Limiter::At(pb_written)) => match option_type {
+            OptionType::Call => pb_held < pb_written,
+            OptionType::Put => pb_held > pb_written,
+        },
     }
 }
 

@@ -2,13 +2,16 @@
 //! wrong answers.
 
 use reference::account::Account;
-use reference::brute_force::{check, reference_claim};
-use reference::draft::{example, Draft, PositionDraft, SeriesDraft, CALL, UP_AND_OUT, WRITTEN};
+use reference::brute_force::{check, limited_pairs, reference_claim, Claim};
+use reference::draft::{
+    example, Draft, PositionDraft, SeriesDraft, CALL, HELD, PUT, UP_AND_OUT, WRITTEN,
+};
 use reference::lines::{margin, Left, Margin};
+use reference::pairing::Pair;
 use reference::paths::{is_path, payment};
 use reference::random::Random;
 use reference::reader::read_account;
-use reference::sample::{sample_account, Shape};
+use reference::sample::{limited_alike, sample_account, Shape};
 
 fn example_account() -> Account {
     read_account(&example().bytes()).unwrap()
@@ -25,18 +28,24 @@ fn random_small_accounts() {
         fb_above_one: true,
     };
     let mut random = Random::new(7);
-    for _ in 0..400 {
-        let bytes = sample_account(&mut random, &shape).bytes();
-        let account = read_account(&bytes).expect("accepted");
+    let mut limited = 0;
+    for number in 0..800 {
+        let mut draft = sample_account(&mut random, &shape);
+        if number >= 400 {
+            draft = limited_alike(&mut random, draft);
+        }
+        let account = read_account(&draft.bytes()).expect("accepted");
         let claim = reference_claim(&account);
         if let Err(violation) = check(&account, &claim, 4) {
             panic!("{violation}\n{account:#?}\n{claim:#?}");
         }
+        limited += limited_pairs(&account, &claim.margin);
     }
+    assert!(limited > 50, "{limited} limited pairs");
 }
 
 /// The violation found in a changed answer to the example.
-fn found(change: impl Fn(&mut reference::brute_force::Claim)) -> String {
+fn found(change: impl Fn(&mut Claim)) -> String {
     let account = example_account();
     let mut claim = reference_claim(&account);
     assert!(check(&account, &claim, 4).is_ok());
@@ -63,7 +72,7 @@ fn unit_margin_one_too_small_is_found() {
 
 #[test]
 fn no_pair_at_all_is_found() {
-    let no_pairs = |claim: &mut reference::brute_force::Claim| {
+    let no_pairs = |claim: &mut Claim| {
         claim.margin = Margin {
             pairs: vec![],
             left: vec![
@@ -81,6 +90,50 @@ fn no_pair_at_all_is_found() {
 #[test]
 fn lost_contracts_are_found() {
     assert!(found(|claim| claim.margin.left.clear()).starts_with("contracts"));
+}
+
+/// Checks a pair of one strike, 3000, and these limiters, claimed to need no
+/// margin.
+fn claimed_pair(
+    type_byte: u8,
+    of_held: Option<u32>,
+    of_written: Option<u32>,
+) -> Result<(), String> {
+    let row = |side: u8, limiter: Option<u32>| {
+        let plain = PositionDraft::plain(0, side, 3000, 1);
+        limiter.map_or(plain, |price| plain.with_limiter(price))
+    };
+    let rows = vec![row(WRITTEN, of_written), row(HELD, of_held)];
+    let draft = Draft::new(vec![SeriesDraft::checked(type_byte)], rows);
+    let account = read_account(&draft.bytes()).expect("accepted");
+    let pair = Pair { written: 0, held: 1, quantity: 1, amount: 0 };
+    let margin = Margin { pairs: vec![pair], left: vec![], premium: 0, total: 0 };
+    let claim = Claim { margin, ..reference_claim(&account) };
+    check(&account, &claim, 4).map(|_| ())
+}
+
+/// The held row of a pair that limiters bar does not cover the written one.
+#[test]
+fn pairs_barred_by_limiters_are_found() {
+    for (type_byte, of_held, of_written) in [
+        (CALL, Some(3299), Some(3300)),
+        (CALL, Some(3599), None),
+        (PUT, Some(2701), Some(2700)),
+        (PUT, Some(2401), None),
+    ] {
+        let violation = claimed_pair(type_byte, of_held, of_written).unwrap_err();
+        assert!(violation.starts_with("the cover"), "{violation}");
+    }
+    for (type_byte, of_held, of_written) in [
+        (CALL, Some(3300), Some(3300)),
+        (CALL, Some(3301), Some(3300)),
+        (CALL, None, Some(3300)),
+        (PUT, Some(2700), Some(2700)),
+        (PUT, Some(2699), Some(2700)),
+        (PUT, None, Some(2700)),
+    ] {
+        assert_eq!(claimed_pair(type_byte, of_held, of_written), Ok(()));
+    }
 }
 
 /// Nothing is owed on any path of any series.

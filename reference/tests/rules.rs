@@ -1,5 +1,5 @@
 //! Rules worked out by hand from the document and the annex, beyond the
-//! checked values.
+//! checked values. Those of limiters inside a spread are in `limiters.rs`.
 
 use reference::account::fine;
 use reference::draft::{
@@ -125,17 +125,6 @@ fn spreads_without_barriers() {
     assert_eq!(spread(CALL, written(3100), held(3101)), Some(fine(1)));
     assert_eq!(spread(PUT, written(3100), held(3200)), Some(0));
     assert_eq!(spread(PUT, written(3100), held(3099)), Some(fine(1)));
-}
-
-#[test]
-fn limiters_bar_all_but_the_same() {
-    let limited = |row: PositionDraft| row.with_limiter(3500);
-    assert_eq!(spread(CALL, limited(written(3100)), limited(held(3100))), Some(0));
-    assert_eq!(spread(CALL, limited(written(3100)), held(3100)), None);
-    assert_eq!(spread(CALL, written(3100), limited(held(3100))), None);
-    assert_eq!(spread(CALL, limited(written(3100)), limited(held(3000))), None);
-    assert_eq!(spread(PUT, written(3100).with_limiter(0), held(3100)), None);
-    assert_eq!(spread(PUT, written(3100).with_limiter(0), held(3100).with_limiter(0)), Some(0));
 }
 
 #[test]

@@ -1,4 +1,4 @@
--- Rows that may pair are of one family, and identical-only rows have one strike.
+-- Rows that may pair are of one family, and knock-ins that may pair have one strike.
 -- Assumes nothing.
 use Prim.Native.Nat.{ℕ, _≤_}
 use mathlib.Core.Bool.{Bool, true, false, cond}
@@ -6,14 +6,13 @@ use mathlib.Core.Path.{_≡_, refl, sym, ap, _∙_}
 use native.Mathlib.Omega.{arith}
 use lib.Dec.{eqb}
 use borrow.Author.Tests.{eqb-true}
-use Rattle.lanes.specs.Keys.{barrierFamily, family, termsFamily}
+use Rattle.lanes.specs.Keys.{barrierFamily, family}
 use Rattle.rules.proofs.MayPair.{may-pairable}
 use Rattle.rules.proofs.SameRows.{same-terms}
-use Rattle.rules.proofs.Tests.{neither}
 use Rattle.rules.specs.File.{Account}
 use Rattle.rules.specs.OnePosition.{afterFlag1, normal}
 use Rattle.rules.specs.Pairs.{mayOf}
-use Rattle.rules.specs.Spreads.{hasLimiter, kindOf, limiterBars, oneKindSpread, priceOf, same, spreadBetween, unitSpread}
+use Rattle.rules.specs.Spreads.{kindOf, limiterBars, oneKindSpread, priceOf, same, spreadBetween, unitSpread}
 use Rattle.rules.specs.declared.Barrier.{Barrier}
 use Rattle.rules.specs.declared.Barrier.the-variants.{NoBarrier, UpIn, DownIn, UpOut, DownOut}
 use Rattle.rules.specs.declared.Position.{Position}
@@ -45,11 +44,7 @@ barrier-most (DownOut p) = omega arith
 
 pub family-most : (p : Position) → family p ≤ 3
 unfolding family
-family-most p = go (hasLimiter (normal p .limiter))
-  where
-    go : (t : Bool) → cond t 3 (barrierFamily (normal p .barrier)) ≤ 3
-    go true = omega arith
-    go false = barrier-most (normal p .barrier)
+family-most p = barrier-most (normal p .barrier)
 
 barred : (u : ℕ) {A : Type 0} → Barred ≡ Margin u → A
 barred u e = let z : _≡_ {A = ℕ} 0 1 = cc in absurd (omega arith)
@@ -64,27 +59,28 @@ no-knock-in (DownOut p) x u s h w e f = absurd (omega arith)
 
 -- Two normalised positions with a spread.
 module _ (s : Series) (h w : Terms) (u : ℕ) where
-  alike : same h w ≡ true → (termsFamily w ≡ termsFamily h) × (termsFamily w ≡ 3 → w .pe ≡ h .pe)
-  alike e = let n = same-terms h w e in (ap termsFamily (sym n), λ q. ap (λ (t : Terms). t .pe) (sym n))
+  abbrev OneFamily : Type 0
+  OneFamily = (barrierFamily (w .barrier) ≡ barrierFamily (h .barrier)) × (barrierFamily (w .barrier) ≡ 3 → w .pe ≡ h .pe)
 
-  unlike : limiterBars (h .limiter) (w .limiter) ≡ false → eqb (kindOf (h .barrier)) (kindOf (w .barrier)) ≡ true
-      → oneKindSpread (w .barrier) (priceOf (h .barrier)) s h w ≡ Margin u
-      → (termsFamily w ≡ termsFamily h) × (termsFamily w ≡ 3 → w .pe ≡ h .pe)
-  unlike l k e =
-      let n = neither (hasLimiter (h .limiter)) (hasLimiter (w .limiter)) l in
-      rw (n .0, n .1)
-      (sym (one-kind (h .barrier) (w .barrier) k), no-knock-in (w .barrier) (priceOf (h .barrier)) u s h w e)
+  alike : same h w ≡ true → OneFamily
+  alike e =
+      let n = sym (same-terms h w e) in
+      (ap (λ (t : Terms). barrierFamily (t .barrier)) n, λ q. ap (λ (t : Terms). t .pe) n)
 
-  terms-family : spreadBetween s h w ≡ Margin u → (termsFamily w ≡ termsFamily h) × (termsFamily w ≡ 3 → w .pe ≡ h .pe)
-  terms-family = go (same h w) (limiterBars (h .limiter) (w .limiter)) (eqb (kindOf (h .barrier)) (kindOf (w .barrier))) refl refl refl
+  unlike : eqb (kindOf (h .barrier)) (kindOf (w .barrier)) ≡ true
+      → oneKindSpread (w .barrier) (priceOf (h .barrier)) s h w ≡ Margin u → OneFamily
+  unlike k e = (sym (one-kind (h .barrier) (w .barrier) k), no-knock-in (w .barrier) (priceOf (h .barrier)) u s h w e)
+
+  terms-family : spreadBetween s h w ≡ Margin u → OneFamily
+  terms-family = go (same h w) (limiterBars (s .option) (h .limiter) (w .limiter)) (eqb (kindOf (h .barrier)) (kindOf (w .barrier))) refl refl
     where
-      go : (x y z : Bool) → same h w ≡ x → limiterBars (h .limiter) (w .limiter) ≡ y → eqb (kindOf (h .barrier)) (kindOf (w .barrier)) ≡ z
+      go : (x y z : Bool) → same h w ≡ x → eqb (kindOf (h .barrier)) (kindOf (w .barrier)) ≡ z
           → cond x (Margin 0) (cond y Barred (cond z (oneKindSpread (w .barrier) (priceOf (h .barrier)) s h w) Barred)) ≡ Margin u
-          → (termsFamily w ≡ termsFamily h) × (termsFamily w ≡ 3 → w .pe ≡ h .pe)
-      go true y z a b c e = alike a
-      go false true z a b c e = barred u e
-      go false false true a b c e = unlike b c e
-      go false false false a b c e = barred u e
+          → OneFamily
+      go true y z a c e = alike a
+      go false true z a c e = barred u e
+      go false false true a c e = unlike c e
+      go false false false a c e = barred u e
 
 pub normal-pe : (p : Position) → normal p .pe ≡ p .terms .pe
 normal-pe p = go (p .flags .knockedIn)

@@ -1,5 +1,6 @@
 -- The laws that the lanes rest on, over plain values.
 pub mod FileFacts
+pub mod LimiterLaws
 pub mod FamilyLaws
 pub mod KeyLaws
 pub mod MarkLaws

@@ -12,41 +12,33 @@ use Rattle.lanes.specs.Keys.{InRange, barrierFamily, family, fromOf, gro
 use Rattle.lanes.specs.Marks.{markFrom, markGroup, markOf, markPlace, markTop, roleOf, sideRole}
 use Rattle.rules.specs.OnePosition.{normal}
 use Rattle.rules.specs.Pairs.{europeanOrBeforeAnnex}
-use Rattle.rules.specs.Spreads.{hasLimiter}
 use Rattle.rules.specs.declared.Position.{Position}
 use Rattle.rules.specs.declared.Side.{Side}
 use Rattle.rules.specs.declared.Side.the-variants.{Held, Written}
 use Rattle.rules.specs.declared.Terms.{Terms}
 
--- The family, return by return.
-module _ (p : Position) (n : Terms) (is : n ≡ normal p) (t : Bool) (tested : t ≡ hasLimiter (n .limiter)) where
-  limited : hasLimiter (normal p .limiter) ≡ t
-  limited = sym (tested ∙ ap (λ (x : Terms). hasLimiter (x .limiter)) is)
+-- The family of a row, from its normalised terms.
+pub family-is : (p : Position) (n : Terms) (x : ℕ) → n ≡ normal p → x ≡ barrierFamily (n .barrier) → x ≡ family p
+unfolding family
+family-is p n x is q = q ∙ ap (λ (t : Terms). barrierFamily (t .barrier)) is
 
-  pub family-limited : t ≡ true → 3 ≡ family p
-  unfolding family
-  family-limited e = rw (limited ∙ e)
+side-most : (met : Bool) (s : Side) → sideRole met s ≤ 2
+side-most true Held = omega arith
+side-most false Held = omega arith
+side-most met Written = omega arith
 
-  pub family-other : (x : ℕ) → t ≡ false → x ≡ barrierFamily (n .barrier) → x ≡ family p
-  unfolding family
-  family-other x e q = rw (limited ∙ e) (q ∙ ap (λ (x : Terms). barrierFamily (x .barrier)) is)
-
-pub side-most : (s : Side) → sideRole s ≤ 1
-side-most Held = omega arith
-side-most Written = omega arith
-
-pub role-most : (p : Position) → roleOf p ≤ 2
-role-most p = go (europeanOrBeforeAnnex p)
+pub role-most : (met : Bool) (p : Position) → roleOf met p ≤ 2
+role-most met p = go (europeanOrBeforeAnnex p)
   where
-    go : (t : Bool) → cond t (sideRole (p .side)) 2 ≤ 2
-    go true = omega (arith, side-most (p .side))
+    go : (t : Bool) → cond t (sideRole met (p .side)) 2 ≤ 2
+    go true = side-most met (p .side)
     go false = omega arith
 
-pub role-pairs : (p : Position) (x : ℕ) → europeanOrBeforeAnnex p ≡ true → x ≡ sideRole (p .side) → x ≡ roleOf p
-role-pairs p x e q = rw e q
+pub role-pairs : (met : Bool) (p : Position) (x : ℕ) → europeanOrBeforeAnnex p ≡ true → x ≡ sideRole met (p .side) → x ≡ roleOf met p
+role-pairs met p x e q = rw e q
 
-pub role-none : (p : Position) → europeanOrBeforeAnnex p ≡ false → 2 ≡ roleOf p
-role-none p e = rw e refl
+pub role-none : (met : Bool) (p : Position) → europeanOrBeforeAnnex p ≡ false → 2 ≡ roleOf met p
+role-none met p e = rw e refl
 
 -- The top, return by return.
 module _ (o x : ℕ) where
@@ -69,24 +61,24 @@ module _ (o x : ℕ) where
   from-down q y r = rw (r, ne-eqb o 256 q)
 
 -- A row's mark.
-module _ (p : Position) (ok : InRange p) where
-  pub mark-most : markOf p ≤ last
-  mark-most = omega (arith, place-most p ok, role-most p)
+module _ (met : Bool) (p : Position) (ok : InRange p) where
+  pub mark-most : markOf met p ≤ last
+  mark-most = omega (arith, place-most p ok, role-most met p)
 
-  pub mark-role : markOf p % 256 ≡ roleOf p
-  mark-role = omega (arith, role-most p)
+  pub mark-role : markOf met p % 256 ≡ roleOf met p
+  mark-role = omega (arith, role-most met p)
 
-  pub mark-place : markPlace (markOf p) ≡ placeOf p
-  mark-place = omega (arith, role-most p)
+  pub mark-place : markPlace (markOf met p) ≡ placeOf p
+  mark-place = omega (arith, role-most met p)
 
-  mark-group : markGroup (markOf p) ≡ groupOf p
-  mark-group = omega (arith, role-most p, ok .pe-most)
+  mark-group : markGroup (markOf met p) ≡ groupOf p
+  mark-group = omega (arith, role-most met p, ok .pe-most)
 
-  mark-family : markOf p / 1_099_511_627_776 % 4 ≡ family p
-  mark-family = omega (arith, role-most p, ok .pe-most, family-most p)
+  mark-family : markOf met p / 1_099_511_627_776 % 4 ≡ family p
+  mark-family = omega (arith, role-most met p, ok .pe-most, family-most p)
 
-  pub mark-from : (o : ℕ) → markFrom o (markOf p) ≡ fromOf o p
+  pub mark-from : (o : ℕ) → markFrom o (markOf met p) ≡ fromOf o p
   mark-from o = rw mark-place refl
 
-  pub mark-top : (o : ℕ) → markTop o (markOf p) ≡ topOf o p
+  pub mark-top : (o : ℕ) → markTop o (markOf met p) ≡ topOf o p
   mark-top o = rw (mark-family, mark-place, mark-group) refl

@@ -1,18 +1,19 @@
 -- The table as a whole: links by the marks of its rows, and these as the definitions have them of an account.
 -- Assumes nothing.
 use Prim.Native.Nat.{ℕ, _+_, _-_, _%_, _≤_, _<_}
-use mathlib.Core.Bool.{Bool, true, false, cond, _&&_}
+use mathlib.Core.Bool.{Bool, true, false, cond, _&&_, _||_, false≢true}
 use mathlib.Core.List.{List}
 use mathlib.Core.Logic.{_⊎_, inl, inr}
-use mathlib.Core.Path.{_≡_, refl, sym, ap, _∙_}
+use mathlib.Core.Path.{_≡_, refl, sym, ap, ap₂, _∙_}
 use native.Mathlib.Omega.{arith}
 use lib.Dec.{eqb}
 use lib.ListN.{length, length-set, set}
 use lib.Seq.{getD-set-other, getD-set-same}
 use borrow.Author.Tests.{eq-eqb, ne-eqb}
 use Rattle.lanes.proofs.FileFacts.{Ranged, row-range}
-use Rattle.lanes.proofs.MarkLaws.{mark-from, mark-most, mark-role, side-most}
-use Rattle.lanes.specs.Keys.{LeastKey, Links, from, inLanes, key, last, pairsAsHeld}
+use Rattle.lanes.proofs.MarkLaws.{mark-from, mark-most, mark-role}
+use Rattle.lanes.specs.Keys.{LeastKey, Links, from, inLanes, isLinked, key, last, pairsAsHeld, pairsAsWritten}
+use Rattle.lanes.specs.Limiters.{isMet}
 use Rattle.lanes.specs.Links.{Linked, LinksFilled, MarkLinks, Ordered, downKey, heldFrom, laneKey, markKey, markLinkFrom, writtenFrom}
 use Rattle.lanes.specs.Marks.{Marked, Marks, Sorted, TableFilled, markFrom, markOf, markPlace, roleOf, sideRole, sideUnit}
 use Rattle.numbers.proofs.Order.{newest, split}
@@ -151,37 +152,49 @@ module _ (table keys written was now : List ℕ) (n m p : ℕ) (few : p ≤ 256)
       }
 
 -- The marks of an account's rows.
-role-held : (p : Position) → eqb (roleOf p) 0 ≡ pairsAsHeld p
-role-held p = go (europeanOrBeforeAnnex p) (p .side)
+role-held : (met : Bool) (p : Position) → eqb (roleOf met p) 0 ≡ (pairsAsHeld p && met)
+role-held met p = go met (europeanOrBeforeAnnex p) (p .side)
   where
-    go : (t : Bool) (s : Side) → eqb (cond t (sideRole s) 2) 0 ≡ (isHeld s && t)
-    go true Held = refl
-    go true Written = refl
-    go false Held = refl
-    go false Written = refl
+    go : (m t : Bool) (s : Side) → eqb (cond t (sideRole m s) 2) 0 ≡ (isHeld s && t && m)
+    go true true Held = refl
+    go false true Held = refl
+    go m true Written = refl
+    go m false Held = refl
+    go m false Written = refl
+
+-- A row that has links is held or written in a pair.
+role-linked : (met : Bool) (p : Position) → (pairsAsHeld p && met || pairsAsWritten p) ≡ true → roleOf met p < 2
+role-linked met p = go met (europeanOrBeforeAnnex p) (p .side)
+  where
+    go : (m t : Bool) (s : Side) → (isHeld s && t && m || isWritten s && t) ≡ true → cond t (sideRole m s) 2 < 2
+    go true true Held e = omega arith
+    go false true Held e = absurd (false≢true e)
+    go m true Written e = omega arith
+    go m false Held e = absurd (false≢true e)
+    go m false Written e = absurd (false≢true e)
 
 module _ (a : Account) (ok : Ranged a) (table : List ℕ) (marks : Marks a table) where
-  row-role : (r : ℕ) → r < a .positions → nth table r % 256 ≡ roleOf (a .positionAt r)
-  row-role r l = ap (λ x. x % 256) (marks r l) ∙ mark-role (a .positionAt r) (row-range a ok r l)
+  row-role : (r : ℕ) → r < a .positions → nth table r % 256 ≡ roleOf (isMet a r) (a .positionAt r)
+  row-role r l = ap (λ x. x % 256) (marks r l) ∙ mark-role (isMet a r) (a .positionAt r) (row-range a ok r l)
 
   row-held : (r : ℕ) → r < a .positions → eqb (nth table r % 256) 0 ≡ inLanes a r
-  row-held r l = ap (λ x. eqb x 0) (row-role r l) ∙ role-held (a .positionAt r)
+  row-held r l = ap (λ x. eqb x 0) (row-role r l) ∙ role-held (isMet a r) (a .positionAt r)
 
   row-from : (o r : ℕ) → r < a .positions → markFrom o (nth table r) ≡ from a o r
-  row-from o r l = ap (markFrom o) (marks r l) ∙ mark-from (a .positionAt r) (row-range a ok r l) o
+  row-from o r l = ap (markFrom o) (marks r l) ∙ mark-from (isMet a r) (a .positionAt r) (row-range a ok r l) o
 
   pub row-most : (r : ℕ) → r < a .positions → nth table r ≤ last
-  row-most r l = rw (marks r l) (mark-most (a .positionAt r) (row-range a ok r l))
+  row-most r l = rw (marks r l) (mark-most (isMet a r) (a .positionAt r) (row-range a ok r l))
 
-  row-pairs : (r : ℕ) → r < a .positions → europeanOrBeforeAnnex (a .positionAt r) ≡ true → nth table r % 256 < 2
-  row-pairs r l e = rw (row-role r l, e) (omega (arith, side-most (a .positionAt r .side)))
+  row-linked : (r : ℕ) → r < a .positions → isLinked a r ≡ true → nth table r % 256 < 2
+  row-linked r l e = rw (row-role r l) (role-linked (isMet a r) (a .positionAt r) e)
 
   links-as : (o : ℕ) (new : List ℕ) → MarkLinks table (a .positions) o new → Links a o new
   links-as o new f r l e =
       least-alike (markKey table o) (key a o) (a .positions) _ _ _ _
       (λ h b. rw (row-held h b, row-from o h b) refl)
       (rw (row-held r l, row-from o r l) refl) refl
-      (f r l (row-pairs r l e))
+      (f r l (row-linked r l e))
 
 unit-is : (side : Side) (s : Series) (p : Position) → isWritten side ≡ true → sideUnit side s p ≡ unitMargin s p
 unit-is Held s p e = let z : _≡_ {A = ℕ} 0 1 = cc in absurd (omega arith)
@@ -198,9 +211,9 @@ module _ (a : Account) (old : List ℕ) where
       }
 
   module _ (m : ℕ) (was : List ℕ) (row : m < 256) (room : 1024 ≤ length was) (f : Marked a m old was) where
-    pub marked-more : (p : Position) (x u : ℕ) → p ≡ a .positionAt m → x ≡ markOf p → u ≡ sideUnit (p .side) (a .seriesAt (p .series)) p
+    pub marked-more : (met : Bool) (p : Position) (x u : ℕ) → p ≡ a .positionAt m → met ≡ isMet a m → x ≡ markOf met p → u ≡ sideUnit (p .side) (a .seriesAt (p .series)) p
         → Marked a (m + 1) old (set (set was m x) (768 + m) u)
-    marked-more p x u ep ex eu =
+    marked-more met p x u ep em ex eu =
         record {
           marks = λ r l. marks r (newest r m l);
           units = λ r l. units r (newest r m l);
@@ -213,11 +226,11 @@ module _ (a : Account) (old : List ℕ) where
         other : (i : ℕ) → (i ≡ m → ⊥) → (i ≡ 768 + m → ⊥) → nth new i ≡ nth was i
         other i y z = getD-set-other (set was m x) (768 + m) i u 0 z ∙ getD-set-other was m i x 0 y
 
-        marks : (r : ℕ) → (r ≡ m) ⊎ (r < m) → nth new r ≡ markOf (a .positionAt r)
+        marks : (r : ℕ) → (r ≡ m) ⊎ (r < m) → nth new r ≡ markOf (isMet a r) (a .positionAt r)
         marks r (inl q) =
             rw q
             (getD-set-other (set was m x) (768 + m) m u 0 (λ (q : m ≡ 768 + m). omega arith)
-            ∙ getD-set-same was m x 0 (omega arith) ∙ ex ∙ ap markOf ep)
+            ∙ getD-set-same was m x 0 (omega arith) ∙ ex ∙ ap₂ markOf em ep)
         marks r (inr l) = other r (λ (q : r ≡ m). omega arith) (λ (q : r ≡ 768 + m). omega arith) ∙ f .marks r l
 
         units : (r : ℕ) → (r ≡ m) ⊎ (r < m) → nth new (768 + r) ≡ sideUnit (a .positionAt r .side) (seriesOfRow a r) (a .positionAt r)

@@ -3,20 +3,19 @@
 -- upwards, the down lane from `last` downwards, but for rows of one strike, which stand in both in the order of the file.
 -- A row's number takes the last 8 bits of a key. A lane is named by the column of the table (Marks) that has its links.
 use Prim.Native.Nat.{ℕ, _+_, _*_, _-_, _≤_, _<_}
-use mathlib.Core.Bool.{Bool, true, cond, _&&_}
+use mathlib.Core.Bool.{Bool, true, cond, _&&_, _||_}
 use mathlib.Core.List.{List}
 use mathlib.Core.Path.{_≡_}
 use lib.Dec.{eqb}
+use Rattle.lanes.specs.Limiters.{isMet}
 use Rattle.numbers.specs.Lists.{nth}
 use Rattle.rules.specs.File.{Account}
 use Rattle.rules.specs.Limits.{mostPositions}
 use Rattle.rules.specs.Pairs.{europeanOrBeforeAnnex, isHeld, isWritten}
 use Rattle.rules.specs.OnePosition.{normal}
-use Rattle.rules.specs.Spreads.{hasLimiter}
 use Rattle.rules.specs.declared.Barrier.{Barrier}
 use Rattle.rules.specs.declared.Barrier.the-variants.{NoBarrier, UpIn, DownIn, UpOut, DownOut}
 use Rattle.rules.specs.declared.Position.{Position}
-use Rattle.rules.specs.declared.Terms.{Terms}
 
 -- The columns of the table: the marks of the rows from 0 on, their links in both lanes, the unit margins, and the pairing's
 -- lines; and the numbers of the whole table.
@@ -51,15 +50,21 @@ pairsAsHeld p = isHeld (p .side) && europeanOrBeforeAnnex p
 abbrev pub pairsAsWritten : Position → Bool
 pairsAsWritten p = isWritten (p .side) && europeanOrBeforeAnnex p
 
+-- The held rows in the lanes: those with a limiter that no written row meets are left out.
 abbrev pub inLanes : Account → ℕ → Bool
-inLanes a r = pairsAsHeld (a .positionAt r)
+inLanes a r = pairsAsHeld (a .positionAt r) && isMet a r
+
+-- The rows that have links.
+abbrev pub isLinked : Account → ℕ → Bool
+isLinked a r = inLanes a r || pairsAsWritten (a .positionAt r)
 
 -- What keys and ranks rest on.
 pub record InRange (p : Position) : Type 0 where
   pub series-most : p .series ≤ 32
   pub pe-most : p .terms .pe ≤ 10_000_000
 
--- Rows that may pair are of one family: no barrier, up-and-out, down-and-out, or rows that pair with identical rows only.
+-- Rows that may pair are of one family: no barrier, up-and-out, down-and-out, or knock-ins, which pair with identical rows
+-- only.
 abbrev pub barrierFamily : Barrier → ℕ
 barrierFamily NoBarrier = 0
 barrierFamily (UpIn price) = 3
@@ -67,12 +72,9 @@ barrierFamily (DownIn price) = 3
 barrierFamily (UpOut price) = 1
 barrierFamily (DownOut price) = 2
 
--- Of a normalised position, and of any.
-abbrev pub termsFamily : Terms → ℕ
-termsFamily t = cond (hasLimiter (t .limiter)) 3 (barrierFamily (t .barrier))
-
+-- "after flag 1 is applied"
 unfoldable pub family : Position → ℕ
-family p = termsFamily (normal p)
+family p = barrierFamily (normal p .barrier)
 
 -- The part of a key that series and family make, and the key without the row.
 abbrev pub groupOf : Position → ℕ
@@ -123,8 +125,8 @@ pub record LeastKey (keys : ℕ → ℕ) (n lo y : ℕ) : Type 0 where
   pub is-key : y < none → (h : ℕ) × (h < n) × (keys h ≡ y)
   pub most : y ≤ none
 
--- The links of one lane, of the rows that pair: the next key after a held row's own, the first from a written row's start.
+-- The links of one lane: the next key after a held row's own, the first from a written row's start.
 abbrev pub Links : Account → ℕ → List ℕ → Type 0
 Links a o table =
-    (r : ℕ) → r < a .positions → europeanOrBeforeAnnex (a .positionAt r) ≡ true
+    (r : ℕ) → r < a .positions → isLinked a r ≡ true
     → LeastKey (key a o) (a .positions) (linkFrom a o r) (nth table (o + r))

@@ -1,16 +1,17 @@
 -- The table of an account's rows, made once before the pairs: five columns with a number of each row. The first
 -- has the marks; the columns of the lanes the links, then come the unit margins; the last column is the pairing's.
 use Prim.Native.Nat.{ℕ, _+_, _*_, _-_, _/_, _%_, _≤_, _<_}
-use mathlib.Core.Bool.{true, cond}
+use mathlib.Core.Bool.{Bool, true, cond}
 use mathlib.Core.List.{List}
 use mathlib.Core.Path.{_≡_}
 use lib.Dec.{eqb}
 use lib.ListN.{length}
 use Rattle.account.specs.Known.{Known}
 use Rattle.lanes.specs.Keys.{Links, downLane, last, lineColumn, placeOf, tableSize, unitColumn, upLane}
+use Rattle.lanes.specs.Limiters.{Nearest, isMet}
 use Rattle.numbers.specs.Lists.{nth}
-use Rattle.rules.specs.File.{Account, seriesOfRow}
-use Rattle.rules.specs.Limits.{mostPositions}
+use Rattle.rules.specs.File.{Account, accountOf, seriesOfRow}
+use Rattle.rules.specs.Limits.{mostPositions, mostSeries}
 use Rattle.rules.specs.OnePosition.{unitMargin}
 use Rattle.rules.specs.Pairs.{europeanOrBeforeAnnex, isWritten}
 use Rattle.rules.specs.declared.Layout.{Layout}
@@ -19,17 +20,17 @@ use Rattle.rules.specs.declared.Series.{Series}
 use Rattle.rules.specs.declared.Side.{Side}
 use Rattle.rules.specs.declared.Side.the-variants.{Held, Written}
 
--- What a row can be in a pair: its held row, 0, its written row, 1, or neither, 2.
-abbrev pub sideRole : Side → ℕ
-sideRole Held = 0
-sideRole Written = 1
+-- What a row can be in a pair: its held row, 0, its written row, 1, or neither, 2. A held row is one only where it is met.
+abbrev pub sideRole : Bool → Side → ℕ
+sideRole met Held = cond met 0 2
+sideRole met Written = 1
 
-abbrev pub roleOf : Position → ℕ
-roleOf p = cond (europeanOrBeforeAnnex p) (sideRole (p .side)) 2
+abbrev pub roleOf : Bool → Position → ℕ
+roleOf met p = cond (europeanOrBeforeAnnex p) (sideRole met (p .side)) 2
 
 -- The mark of a row: its place, and its role where a key has the row.
-abbrev pub markOf : Position → ℕ
-markOf p = placeOf p + roleOf p
+abbrev pub markOf : Bool → Position → ℕ
+markOf met p = placeOf p + roleOf met p
 
 -- What keys have, of a mark x: the place, the same as the lane counts it, and the top.
 abbrev pub markPlace : ℕ → ℕ
@@ -48,7 +49,7 @@ markTop o x =
     (cond (eqb o upLane) (markGroup x + 1_099_511_627_776) (last + 256 - markGroup x))
 
 abbrev pub Marks : Account → List ℕ → Type 0
-Marks a table = (r : ℕ) → r < a .positions → nth table r ≡ markOf (a .positionAt r)
+Marks a table = (r : ℕ) → r < a .positions → nth table r ≡ markOf (isMet a r) (a .positionAt r)
 
 -- The unit margin of a written row, 0 for a held one.
 abbrev pub sideUnit : Side → Series → Position → ℕ
@@ -98,8 +99,15 @@ pub record TableFilled (a : Account) (old new written : List ℕ) (n : ℕ) : Ty
   pub lines : SameLines old new
   pub sorted : Sorted new 1 written n (a .positions)
 
+-- What marks rest on: the nearest limiters of the series.
+pub record MarksAsked (b : List ℕ) (l : Layout) (near table : List ℕ) : Type 0 where
+  pub file : Known b l
+  pub near-room : mostSeries ≤ length near
+  pub near-are : Nearest (accountOf b l) (l .positions) near
+  pub room : lineColumn ≤ length table
+
 -- Marks and unit margins of the rows before m.
 pub record Marked (a : Account) (m : ℕ) (old new : List ℕ) : Type 0 where
-  pub marks : (r : ℕ) → r < m → nth new r ≡ markOf (a .positionAt r)
+  pub marks : (r : ℕ) → r < m → nth new r ≡ markOf (isMet a r) (a .positionAt r)
   pub units : (r : ℕ) → r < m → nth new (unitColumn + r) ≡ sideUnit (a .positionAt r .side) (seriesOfRow a r) (a .positionAt r)
   pub lines : SameLines old new

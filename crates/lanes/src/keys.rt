@@ -1,11 +1,11 @@
 // The mark of a row, made once, and what keys have of it.
 use crate::UP;
-use position::quantities::has_limiter;
 use position::quantities::normalised;
 use rules::Barrier;
 use rules::Position;
 use rules::Side;
 ghost use Prim.Native.Nat.{_≤_};
+ghost use mathlib.Core.Bool.{cond};
 ghost use mathlib.Core.Path.{_≡_};
 ghost use Rattle.lanes.specs.Keys.{InRange, barrierFamily, family, last};
 ghost use Rattle.lanes.specs.Marks.{markFrom, markGroup, markOf, markPlace, markTop, roleOf, sideRole};
@@ -29,24 +29,26 @@ fn barrier_family(b: Barrier) -> u64
     }
 }
 
-// No barrier, up-and-out, down-and-out, or rows that pair with identical rows only.
+// No barrier, up-and-out, down-and-out, or knock-ins, which pair with identical rows only.
 fn family_of(p: Position) -> u64
     ensures { λ r. ⌜ (r ≡ family p) × (r ≤ 3) ⌝ }
 {
     let n = normalised(p);
-    let limiter = n.limiter;
     let barrier = n.barrier;
-    if has_limiter(limiter) {
-        return 3;
-    }
     barrier_family(barrier)
 }
 
-fn side_role(side: Side) -> u64
-    ensures { λ r. ⌜ r ≡ sideRole side ⌝ }
+fn held_role(met: bool) -> u64
+    ensures { λ r. ⌜ r ≡ cond met 0 2 ⌝ }
+{
+    if met { 0 } else { 2 }
+}
+
+fn side_role(met: bool, side: Side) -> u64
+    ensures { λ r. ⌜ r ≡ sideRole met side ⌝ }
 {
     match side {
-        Side::Held => 0,
+        Side::Held => held_role(met),
         Side::Written => 1,
     }
 }
@@ -58,23 +60,23 @@ fn european_or_before_annex(p: Position) -> bool
     flags.european | flags.beforeAnnex
 }
 
-// The held row of a pair, the written row of a pair, or neither.
-fn role_of(p: Position) -> u64
-    ensures { λ r. ⌜ (r ≡ roleOf p) × (r ≤ 2) ⌝ }
+// The held row of a pair, which is met, the written row of a pair, or neither.
+fn role_of(met: bool, p: Position) -> u64
+    ensures { λ r. ⌜ (r ≡ roleOf met p) × (r ≤ 2) ⌝ }
 {
     if european_or_before_annex(p) {
         let side = p.side;
-        return side_role(side);
+        return side_role(met, side);
     }
     2
 }
 
-pub fn mark_of(p: Position) -> u64
+pub fn mark_of(met: bool, p: Position) -> u64
     requires { ⌜ InRange p ⌝ }
-    ensures { λ x. ⌜ x ≡ markOf p ⌝ }
+    ensures { λ x. ⌜ x ≡ markOf met p ⌝ }
 {
     let group = ((p.series as u64) * 4 + family_of(p)) * 1_099_511_627_776;
-    group + (p.terms.pe as u64) * 256 + role_of(p)
+    group + (p.terms.pe as u64) * 256 + role_of(met, p)
 }
 
 pub fn mark_place(x: u64) -> u64

@@ -1,5 +1,6 @@
 // The lanes: held rows in the order of their strikes, upwards and downwards, and the table of what is kept of each row.
 pub mod keys;
+pub mod limiters;
 pub mod links;
 pub mod table;
 

@@ -1,6 +1,8 @@
 // The table of an account's rows.
 use crate::UNITS;
 use crate::keys::mark_of;
+use crate::limiters::fill_nearest;
+use crate::limiters::nearness_of;
 use crate::links::fill_keys;
 use crate::links::fill_links;
 use account::lookup::position_at;
@@ -8,14 +10,13 @@ use account::lookup::series_of_position;
 use position::margin::unit_margin;
 use position::quantities::normalised;
 use rules::Layout;
+use rules::MOST_SERIES;
 use rules::Position;
 use rules::Side;
-ghost use Prim.Native.Nat.{_<_, _≤_};
-ghost use lib.ListN.{length};
+ghost use Prim.Native.Nat.{_<_};
 ghost use mathlib.Core.Path.{_≡_};
 ghost use Rattle.account.specs.Known.{Known};
-ghost use Rattle.lanes.specs.Keys.{lineColumn};
-ghost use Rattle.lanes.specs.Marks.{Marked, TableAsked, TableFilled, sideUnit};
+ghost use Rattle.lanes.specs.Marks.{Marked, MarksAsked, TableAsked, TableFilled, sideUnit};
 ghost use Rattle.rules.specs.File.{accountOf};
 
 // The unit margin of a written row, 0 for a held one.
@@ -30,16 +31,16 @@ fn unit_of_row(file: &[u8], l: Layout, p: Position) -> u64
     }
 }
 
-// Marks and unit margins of all rows.
-fn fill_marks(file: &[u8], l: Layout, table: &mut [u64])
-    requires { ⌜ Known (now file) l × (lineColumn ≤ length (now table)) ⌝ }
+// Marks and unit margins of all rows, from the nearest limiters of the series.
+fn fill_marks(file: &[u8], l: Layout, near: &[u64], table: &mut [u64])
+    requires { ⌜ MarksAsked (now file) l (now near) (now table) ⌝ }
     ensures { λ _. ⌜ Marked (accountOf (now (file .entry)) l) (l .positions) (now (table .entry)) (now (table .exit)) ⌝ }
 {
     let n = l.positions;
     let mut r = 0;
     while r < n {
         let p = position_at(file, l, r);
-        table[r] = mark_of(p);
+        table[r] = mark_of(nearness_of(file, l, p) <= near[p.series as usize], p);
         table[UNITS + r] = unit_of_row(file, l, p);
         r += 1;
     }
@@ -58,7 +59,9 @@ pub fn fill_table(
     requires { ⌜ TableAsked (now file) l (now table) (now written) (now keys) (now starts) ⌝ }
     ensures { λ n. ⌜ TableFilled (accountOf (now (file .entry)) l) (now (table .entry)) (now (table .exit)) (now (written .exit)) n ⌝ }
 {
-    fill_marks(file, l, table);
+    let mut near = [0u64; MOST_SERIES];
+    fill_nearest(file, l, &mut near);
+    fill_marks(file, l, &near, table);
     let n = fill_keys(table, l.positions, 1, written);
     fill_links(table, l.positions, written, n, keys, starts);
     n

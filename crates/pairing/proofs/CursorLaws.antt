@@ -9,7 +9,8 @@ use native.Mathlib.Omega.{arith}
 use borrow.Author.Tests.{eq-eqb}
 use Rattle.lanes.proofs.FileFacts.{Ranged}
 use Rattle.lanes.proofs.KeyLaws.{key-below, key-is, key-row, key-some, link-from-is, one-group, top-most}
-use Rattle.lanes.specs.Keys.{LeastKey, Links, family, from, inLanes, key, linkFrom, none, pairsAsWritten, start, top}
+use Rattle.lanes.specs.Keys.{LeastKey, Links, family, from, inLanes, key, linkFrom, none, pairsAsHeld, pairsAsWritten, start, top}
+use Rattle.lanes.specs.Limiters.{isMet}
 use Rattle.numbers.proofs.Order.{split}
 use Rattle.numbers.specs.Lists.{nth}
 use Rattle.pairing.specs.Cursors.{Cursor, Kept, Meets, Open, Places, Ranked, distance}
@@ -38,7 +39,8 @@ module _ (a : Account) (ok : Ranged a) (left : List ℕ) (w : ℕ) (lw : w < a .
   cursor-meets o u c t written =
       let h = u % 256 in
       let x = both (isWritten (a .positionAt w .side)) (europeanOrBeforeAnnex (a .positionAt w)) written in
-      let y = both (isHeld (a .positionAt h .side)) (europeanOrBeforeAnnex (a .positionAt h)) (cursor-lane o u c t) in
+      let z = both (pairsAsHeld (a .positionAt h)) (isMet a h) (cursor-lane o u c t) in
+      let y = both (isHeld (a .positionAt h .side)) (europeanOrBeforeAnnex (a .positionAt h)) (z .0) in
       let series = cursor-group o u c t .0 in
       rw (x .0, x .1, y .0, y .1, eq-eqb (a .positionAt w .series) (a .positionAt h .series) series) refl
 
@@ -62,19 +64,17 @@ module _ (a : Account) (ok : Ranged a) (left : List ℕ) (w : ℕ) (lw : w < a .
           let k = f .is-key (some t) in
           ap (λ x. x % 256) (sym (k .2)) ∙ key-row a ok o (k .0) (k .1) (rw (k .2) (some t))
 
-  pub cursor-starts : (o : ℕ) (table : List ℕ) → inLanes a w ≡ false → europeanOrBeforeAnnex (a .positionAt w) ≡ true → Links a o table
+  pub cursor-starts : (o : ℕ) (table : List ℕ) → pairsAsHeld (a .positionAt w) ≡ false → pairsAsWritten (a .positionAt w) ≡ true → Links a o table
       → Cursor a left o w (nth table (o + w))
   cursor-starts o table out pairs f =
-      from-least o (start a o w) (nth table (o + w)) (omega arith) (rw out at (f w lw pairs)) (λ h l e b. b)
+      from-least o (start a o w) (nth table (o + w)) (omega arith) (rw out at (f w lw (rw (out, pairs) refl))) (λ h l e b. b)
 
   module _ (o : ℕ) (table : List ℕ) (f : Links a o table) (u : ℕ) (c : Cursor a left o w u) (t : u < top a o w) where
     bound : linkFrom a o (u % 256) ≡ u + 1
     bound = link-from-is a ok o (u % 256) (cursor-lane o u c t) ∙ ap (λ x. x + 1) (cursor-key o u c t)
 
     next : LeastKey (key a o) (a .positions) (u + 1) (nth table (o + u % 256))
-    next =
-        let y = both (isHeld (a .positionAt (u % 256) .side)) (europeanOrBeforeAnnex (a .positionAt (u % 256))) (cursor-lane o u c t) in
-        rw (sym bound) (f (u % 256) (c .row t) (y .1))
+    next = rw (sym bound) (f (u % 256) (c .row t) (rw (cursor-lane o u c t) refl))
 
     -- The row at u makes no open pair: the next key takes its place.
     pub cursor-moves : (Open a left w (u % 256) → ⊥) → Cursor a left o w (nth table (o + u % 256))

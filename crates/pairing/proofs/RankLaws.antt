@@ -68,7 +68,7 @@ module _ (a : Account) (ok : Ranged a) (left : List ℕ) (w : ℕ) (lw : w < a .
   module _ (u x : ℕ) (c : Cursor a left 256 w u) (is : x ≡ distance a 256 w u) where
     pub up-near : (h : ℕ) → h < a .positions → Open a left w h → a .positionAt w .terms .pe ≤ a .positionAt h .terms .pe → x ≤ gapOf a w h * 256 + h
     up-near h l o s =
-        let lane = may-meet a w h (o .may-pair) in
+        let lane = may-meet a w h lw (o .may-pair) in
         let k = key-is a ok 256 h (lane .held) in
         let series = lane .series in
         let family-is = lane .family-is in
@@ -93,7 +93,7 @@ module _ (a : Account) (ok : Ranged a) (left : List ℕ) (w : ℕ) (lw : w < a .
   module _ (d y : ℕ) (c : Cursor a left 512 w d) (is : y ≡ distance a 512 w d) where
     pub down-near : (h : ℕ) → h < a .positions → Open a left w h → a .positionAt h .terms .pe < a .positionAt w .terms .pe → y ≤ gapOf a w h * 256 + h
     down-near h l o s =
-        let lane = may-meet a w h (o .may-pair) in
+        let lane = may-meet a w h lw (o .may-pair) in
         let k = key-is a ok 512 h (lane .held) in
         let series = lane .series in
         let family-is = lane .family-is in

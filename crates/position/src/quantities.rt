@@ -14,7 +14,6 @@ ghost use mathlib.Core.Path.{_≡_};
 ghost use Rattle.rules.proofs.Mirror.{charge, worst};
 ghost use Rattle.rules.specs.OnePosition.{callPayoff, limitOr, normal, putPayoff, rebate};
 ghost use Rattle.rules.specs.Quantities.{high, low, minimum};
-ghost use Rattle.rules.specs.Spreads.{hasLimiter};
 
 pub fn high_price(s: Series) -> u64
     ensures { λ r. ⌜ r ≡ high s ⌝ }
@@ -56,15 +55,6 @@ pub fn rebate_of(t: Terms) -> u64
     ensures { λ r. ⌜ r ≡ rebate t ⌝ }
 {
     fine_units(t.reb)
-}
-
-pub fn has_limiter(limiter: Limiter) -> bool
-    ensures { λ r. ⌜ r ≡ hasLimiter limiter ⌝ }
-{
-    match limiter {
-        Limiter::NoLimiter => false,
-        Limiter::At(_) => true,
-    }
 }
 
 // PB, or x where there is no limiter.

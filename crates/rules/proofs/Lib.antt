@@ -25,6 +25,7 @@ pub mod Least
 pub mod SameRows
 pub mod SpreadForms
 pub mod PairCover
+pub mod LimiterBars
 -- Pairing: the choice, the rounds, the lines.
 pub mod PairOrder
 pub mod Search

@@ -4,7 +4,7 @@ use Prim.Native.Nat.{ℕ, _+_, _-_, _≤_}
 use mathlib.Core.Bool.{Bool, true, false, cond, true≢false, false≢true}
 use mathlib.Core.List.{List, [], _∷_}
 use mathlib.Core.Path.{_≡_, refl, ap}
-use borrow.Author.Tests.{eqb-true, le-leb, leb-true}
+use borrow.Author.Tests.{eqb-true, le-leb, leb-true, ltb-false}
 use lib.Dec.{eqb, leb}
 use native.Mathlib.Nat.{le-of-lt}
 use native.Mathlib.Omega.{arith}
@@ -44,11 +44,14 @@ abbrev Cut : OptionType → Limiter → Limiter → ℕ → Type 0
 Cut Call h w z = (capped w z ≤ capped h z) × (capped w z ≤ z)
 Cut Put h w z = (floored h z ≤ floored w z) × (z ≤ floored w z)
 
-unbarred : (k : OptionType) (h w : Limiter) (z : ℕ) → limiterBars h w ≡ false → Cut k h w z
+unbarred : (k : OptionType) (h w : Limiter) (z : ℕ) → limiterBars k h w ≡ false → Cut k h w z
 unbarred Call NoLimiter NoLimiter z e = omega arith
 unbarred Put NoLimiter NoLimiter z e = omega arith
-unbarred k NoLimiter (At pb) z e = absurd (true≢false e)
-unbarred k (At pb) w z e = absurd (true≢false e)
+unbarred Call NoLimiter (At pbw) z e = omega arith
+unbarred Put NoLimiter (At pbw) z e = omega arith
+unbarred k (At pbh) NoLimiter z e = absurd (true≢false e)
+unbarred Call (At pbh) (At pbw) z e = let o = ltb-false pbh pbw e in omega arith
+unbarred Put (At pbh) (At pbw) z e = let o = ltb-false pbw pbh e in omega arith
 
 -- Payoffs at one price.
 module _ (h w : Terms) (z : ℕ) where
@@ -161,7 +164,7 @@ module _ (s : Series) (h w : Terms) (a : ℕ) (l : List ℕ) (within : Every (In
       Covered (spreadBetween s h w) (paymentByBarrier (s .option) (w .barrier) w (a ∷ l)) (paymentByBarrier (s .option) (h .barrier) h (a ∷ l))
   spread-covered =
       cond-covered (same h w) _ _ _ _ (λ (e : same h w ≡ true). omega (arith, same-paid (s .option) h w (a ∷ l) e))
-      (λ _. cond-covered (limiterBars (h .limiter) (w .limiter)) _ _ _ _ (λ _. tt)
+      (λ _. cond-covered (limiterBars (s .option) (h .limiter) (w .limiter)) _ _ _ _ (λ _. tt)
       (λ free. cond-covered (eqb (kindOf (h .barrier)) (kindOf (w .barrier))) _ _ _ _
       (λ e. rw (of-kind (h .barrier) (w .barrier) e) at
       (one-kind (unbarred (s .option) (h .limiter) (w .limiter) (lastOr a l) free) (w .barrier) (priceOf (h .barrier))))

@@ -6,7 +6,7 @@ use mathlib.Core.Bool.{Bool, true, false, cond, false≢true, true≢false}
 use mathlib.Core.Path.{_≡_, refl, sym, ap, _∙_}
 use native.Mathlib.Nat.{le-refl}
 use native.Mathlib.Omega.{arith}
-use borrow.Author.Tests.{eq-eqb, le-leb}
+use borrow.Author.Tests.{eq-eqb, le-leb, le-ltb}
 use lib.Dec.{eqb}
 use Rattle.rules.proofs.SameRows.{same-terms}
 use Rattle.rules.specs.OnePosition.{rebate}
@@ -14,6 +14,8 @@ use Rattle.rules.specs.Quantities.{fine, high, low}
 use Rattle.rules.specs.Spreads.{D, downReached, kindOf, limiterBars, oneKindSpread, outSpread, priceOf, same, spreadBetween, strikeCovers, strikeLoss, upReached}
 use Rattle.rules.specs.declared.Barrier.{Barrier}
 use Rattle.rules.specs.declared.Barrier.the-variants.{NoBarrier, UpIn, DownIn, UpOut, DownOut}
+use Rattle.rules.specs.declared.Limiter.{Limiter}
+use Rattle.rules.specs.declared.Limiter.the-variants.{NoLimiter, At}
 use Rattle.rules.specs.declared.OptionType.{OptionType}
 use Rattle.rules.specs.declared.OptionType.the-variants.{Call, Put}
 use Rattle.rules.specs.declared.Series.{Series}
@@ -29,7 +31,12 @@ knockIn (DownIn price) = true
 knockIn (UpOut price) = false
 knockIn (DownOut price) = false
 
--- A row beside itself: its strike covers, it loses nothing.
+-- A row beside itself: its limiter does not bar, its strike covers, it loses nothing.
+pub self-unbarred : (k : OptionType) (l : Limiter) → limiterBars k l l ≡ false
+self-unbarred k NoLimiter = refl
+self-unbarred Call (At pb) = le-ltb pb pb (le-refl pb)
+self-unbarred Put (At pb) = le-ltb pb pb (le-refl pb)
+
 self-loss : (k : OptionType) (t : Terms) → strikeLoss k t t ≡ 0
 self-loss Call t = omega arith
 self-loss Put t = omega arith
@@ -57,12 +64,16 @@ self-spread (DownOut price) s t n =
     (ap Margin (self-out (downReached s price) s (rebate t - rebate t) (D (s .option) (cond (downReached s price) (fine price) (low s)) (high s) t t) (nothing-left (rebate t))))
 
 module _ (s : Series) (h w : Terms) (r : Spread) where
-  -- A limiter on either row: identical rows or none.
-  pub limited-spread : limiterBars (h .limiter) (w .limiter) ≡ true → r ≡ cond (same h w) (Margin 0) Barred → r ≡ spreadBetween s h w
-  limited-spread e q = q ∙ rw e
+  -- A limiter bars the pair: identical rows have none that does.
+  pub limiter-barred : limiterBars (s .option) (h .limiter) (w .limiter) ≡ true → Barred ≡ spreadBetween s h w
+  limiter-barred e = rw e (go (same h w) refl)
+    where
+      go : (t : Bool) → same h w ≡ t → Barred ≡ cond t (Margin 0) Barred
+      go false z = refl
+      go true z = absurd (true≢false (sym e ∙ ap (λ (x : Terms). limiterBars (s .option) (x .limiter) (w .limiter)) (same-terms h w z) ∙ self-unbarred (s .option) (w .limiter)))
 
   -- Barriers of two kinds.
-  pub two-kinds : limiterBars (h .limiter) (w .limiter) ≡ false → eqb (kindOf (h .barrier)) (kindOf (w .barrier)) ≡ false → Barred ≡ spreadBetween s h w
+  pub two-kinds : limiterBars (s .option) (h .limiter) (w .limiter) ≡ false → eqb (kindOf (h .barrier)) (kindOf (w .barrier)) ≡ false → Barred ≡ spreadBetween s h w
   two-kinds e k = rw e (go (same h w) (eqb (kindOf (h .barrier)) (kindOf (w .barrier))) refl k)
     where
       go : (t f : Bool) → same h w ≡ t → f ≡ false → Barred ≡ cond t (Margin 0) (cond f (oneKindSpread (w .barrier) (priceOf (h .barrier)) s h w) Barred)
@@ -72,7 +83,7 @@ module _ (s : Series) (h w : Terms) (r : Spread) where
           absurd (true≢false (sym (eq-eqb (kindOf (h .barrier)) (kindOf (w .barrier)) (ap (λ (x : Terms). kindOf (x .barrier)) (same-terms h w z))) ∙ k))
 
   -- Two knock-ins: identical rows or none.
-  pub knock-in-spread : limiterBars (h .limiter) (w .limiter) ≡ false → knockIn (w .barrier) ≡ true → r ≡ cond (same h w) (Margin 0) Barred → r ≡ spreadBetween s h w
+  pub knock-in-spread : limiterBars (s .option) (h .limiter) (w .limiter) ≡ false → knockIn (w .barrier) ≡ true → r ≡ cond (same h w) (Margin 0) Barred → r ≡ spreadBetween s h w
   knock-in-spread e n q = q ∙ rw e (ap (cond (same h w) (Margin 0)) (go (w .barrier) (eqb (kindOf (h .barrier)) (kindOf (w .barrier))) n))
     where
       go : (b : Barrier) (t : Bool) → knockIn b ≡ true → Barred ≡ cond t (oneKindSpread b (priceOf (h .barrier)) s h w) Barred
@@ -85,7 +96,7 @@ module _ (s : Series) (h w : Terms) (r : Spread) where
       go (DownOut price) t n = absurd (false≢true n)
 
   -- Other barriers of one kind: their own rule, identical rows too.
-  pub one-kind-rule : limiterBars (h .limiter) (w .limiter) ≡ false → eqb (kindOf (h .barrier)) (kindOf (w .barrier)) ≡ true → knockIn (w .barrier) ≡ false
+  pub one-kind-rule : limiterBars (s .option) (h .limiter) (w .limiter) ≡ false → eqb (kindOf (h .barrier)) (kindOf (w .barrier)) ≡ true → knockIn (w .barrier) ≡ false
       → r ≡ oneKindSpread (w .barrier) (priceOf (h .barrier)) s h w → r ≡ spreadBetween s h w
   one-kind-rule e k n q = q ∙ rw e (go (same h w) (eqb (kindOf (h .barrier)) (kindOf (w .barrier))) refl k)
     where

@@ -11,6 +11,7 @@ use Rattle.rules.specs.Refusals.{rows}
 use Rattle.rules.specs.Spreads.{unitSpread}
 use Rattle.rules.specs.declared.Barrier.{Barrier}
 use Rattle.rules.specs.declared.Barrier.the-variants.{NoBarrier, UpIn, DownIn, UpOut, DownOut}
+use Rattle.rules.specs.declared.Limiter.{Limiter}
 use Rattle.rules.specs.declared.Limiter.the-variants.{NoLimiter, At}
 use Rattle.rules.specs.declared.OptionType.{OptionType}
 use Rattle.rules.specs.declared.OptionType.the-variants.{Call, Put}
@@ -26,21 +27,50 @@ abbrev pub spread : OptionType → ℕ → Barrier → ℕ → ℕ → Barrier �
 spread option peh barh rebh pew barw rebw =
     unitSpread (series option) (row Held peh NoLimiter barh rebh) (row Written pew NoLimiter barw rebw)
 
--- Identical rows and limiters.
+-- Identical rows.
 abbrev pub SameRowSpreads : Type 0
 SameRowSpreads =
     -- "Same PE, limiter, barrier and REB after flag 1 is applied: 0"
     (unitSpread (series Call) (row Held 3100 (At 3300) (UpIn 3700) 40) (row Written 3100 (At 3300) (UpIn 3700) 40) ≡ Margin 0)
-    × (unitSpread (series Put) (row Held 2900 (At 0) (DownOut 2400) 40) (row Written 2900 (At 0) (DownOut 2400) 40) ≡ Margin 0)
+    × (unitSpread (series Put) (row Held 2900 (At 0) (DownIn 2300) 40) (row Written 2900 (At 0) (DownIn 2300) 40) ≡ Margin 0)
     × (unitSpread (series Call) (knockedInRow Held 3100 (UpIn 3700) 40) (knockedInRow Written 3100 (DownIn 2300) 25) ≡ Margin 0)
     × (spread Call 3100 (UpIn 3700) 40 3100 (UpIn 3700) 40 ≡ Margin 0)
     × (spread Put 2900 (DownIn 2300) 0 2900 (DownIn 2300) 0 ≡ Margin 0)
-    -- "Otherwise a limiter on either row bars the pair", also a limiter at 0
+
+-- The same where the held call has strike 3250 and the written one 3100, the held put 2700 and the written one 2900, and both
+-- have the same barrier and no rebate: the held and the written limiter.
+abbrev pub limited : OptionType → Barrier → Limiter → Limiter → Spread
+limited Call bar pbh pbw = unitSpread (series Call) (row Held 3250 pbh bar 0) (row Written 3100 pbw bar 0)
+limited Put bar pbh pbw = unitSpread (series Put) (row Held 2700 pbh bar 0) (row Written 2900 pbw bar 0)
+
+-- Limiters, document 02 [3].
+abbrev pub LimitedSpreads : Type 0
+LimitedSpreads =
+    -- "when the held row has none"; a limiter at 0 is one
+    (limited Call NoBarrier NoLimiter (At 3300) ≡ Margin (fine 150))
+    × (limited Put NoBarrier NoLimiter (At 2600) ≡ Margin (fine 200))
+    × (limited Put NoBarrier NoLimiter (At 0) ≡ Margin (fine 200))
+    -- "PBh ≥ PBw for calls, PBh ≤ PBw for puts": equal, and one tick beside it
+    × (limited Call NoBarrier (At 3300) (At 3300) ≡ Margin (fine 150))
+    × (limited Call NoBarrier (At 3301) (At 3300) ≡ Margin (fine 150))
+    × (limited Call NoBarrier (At 3299) (At 3300) ≡ Barred)
+    × (limited Put NoBarrier (At 2600) (At 2600) ≡ Margin (fine 200))
+    × (limited Put NoBarrier (At 2599) (At 2600) ≡ Margin (fine 200))
+    × (limited Put NoBarrier (At 2601) (At 2600) ≡ Barred)
+    × (limited Put NoBarrier (At 0) (At 0) ≡ Margin (fine 200))
+    × (limited Put NoBarrier (At 0) (At 1) ≡ Margin (fine 200))
+    × (limited Put NoBarrier (At 1) (At 0) ≡ Barred)
+    -- "A held limiter against an unlimited written row still bars it", at the same strike too
+    × (limited Call NoBarrier (At 3300) NoLimiter ≡ Barred)
+    × (limited Put NoBarrier (At 0) NoLimiter ≡ Barred)
     × (unitSpread (series Call) (row Held 3100 (At 3300) NoBarrier 0) (row Written 3100 NoLimiter NoBarrier 0) ≡ Barred)
-    × (unitSpread (series Call) (row Held 3100 NoLimiter NoBarrier 0) (row Written 3100 (At 3300) NoBarrier 0) ≡ Barred)
-    × (unitSpread (series Call) (row Held 3100 (At 3301) NoBarrier 0) (row Written 3100 (At 3300) NoBarrier 0) ≡ Barred)
-    × (unitSpread (series Call) (row Held 3000 (At 3300) NoBarrier 0) (row Written 3100 (At 3300) NoBarrier 0) ≡ Barred)
-    × (unitSpread (series Put) (row Held 2900 NoLimiter NoBarrier 0) (row Written 2900 (At 0) NoBarrier 0) ≡ Barred)
+    -- "The spread formulas are those in force": knock-outs; knock-ins pair with identical rows alone
+    × (limited Call (DownOut 2400) (At 3400) (At 3300) ≡ Margin (fine 150))
+    × (limited Put (UpOut 3600) NoLimiter (At 2600) ≡ Margin (fine 200))
+    × (limited Call (UpOut 3600) (At 3299) (At 3300) ≡ Barred)
+    × (limited Put (DownOut 2400) (At 2600) NoLimiter ≡ Barred)
+    × (limited Call (UpIn 3600) NoLimiter (At 3300) ≡ Barred)
+    × (unitSpread (series Put) (row Held 2900 (At 2500) (DownIn 2400) 0) (row Written 2900 (At 2600) (DownIn 2400) 0) ≡ Barred)
 
 -- No barriers, and what does not pair.
 abbrev pub PlainSpreads : Type 0
@@ -124,6 +154,9 @@ Pairing =
     × (mayPair (series Call) (termed Held 0 true false 3100) (termed Held 0 true false 3250) ≡ false)
     × (mayPair (series Call) (termed Written 0 true false 3100) (termed Written 0 true false 3250) ≡ false)
     × (mayPair (series Call) (termed Held 0 true false 3100) (termed Written 0 true false 3250) ≡ false)
+    -- A limited pair that lowers the margin, 200 to 150, and one that does not
+    × (mayPair (series Call) (row Written 3100 (At 3300) NoBarrier 0) (row Held 3250 (At 3300) NoBarrier 0) ≡ true)
+    × (mayPair (series Call) (row Written 3100 (At 3300) NoBarrier 0) (row Held 3300 (At 3400) NoBarrier 0) ≡ false)
     -- "without sign"
     × (strikeDifference (termed Written 0 true false 3100) (termed Held 0 true false 3250) ≡ 150)
     × (strikeDifference (termed Written 0 true false 3100) (termed Held 0 true false 3000) ≡ 100)

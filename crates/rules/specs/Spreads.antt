@@ -1,7 +1,8 @@
--- Document 01, Pairs (annex section 5): the unit spread margin. Subscripts h and w are the held and the written row.
+-- Document 01, Pairs (annex section 5), with document 02 [3]: the unit spread margin. Subscripts h and w are the held and
+-- the written row.
 use Prim.Native.Nat.{ℕ, _-_, min, max}
-use mathlib.Core.Bool.{Bool, true, false, cond, _&&_, _||_}
-use lib.Dec.{eqb, leb}
+use mathlib.Core.Bool.{Bool, true, false, cond, _&&_}
+use lib.Dec.{eqb, leb, ltb}
 use Rattle.rules.specs.OnePosition.{normal, rebate}
 use Rattle.rules.specs.Quantities.{fine, high, low, minimum}
 use Rattle.rules.specs.declared.Barrier.{Barrier}
@@ -50,14 +51,19 @@ same h w =
     && sameBarrier (h .barrier) (w .barrier)
     && eqb (h .reb) (w .reb)
 
--- Whether a row has a limiter, at whatever price.
-abbrev pub hasLimiter : Limiter → Bool
-hasLimiter NoLimiter = false
-hasLimiter (At pb) = true
+-- "the held one is not nearer: PBh ≥ PBw for calls, PBh ≤ PBw for puts" (document 02 [3]): nearer is where that fails.
+abbrev pub heldNearer : OptionType → ℕ → ℕ → Bool
+heldNearer Call pbh pbw = ltb pbh pbw
+heldNearer Put pbh pbw = ltb pbw pbh
 
--- "a limiter on either row bars the pair"
-abbrev pub limiterBars : Limiter → Limiter → Bool
-limiterBars h w = hasLimiter h || hasLimiter w
+-- Document 02 [3], in place of document 01's "a limiter on either row bars the pair".
+abbrev pub limiterBars : OptionType → Limiter → Limiter → Bool
+-- "A limiter no longer bars a pair when the held row has none"
+limiterBars option NoLimiter w = false
+-- "A held limiter against an unlimited written row still bars it."
+limiterBars option (At pbh) NoLimiter = true
+-- "or when both have one and the held one is not nearer"
+limiterBars option (At pbh) (At pbw) = heldNearer option pbh pbw
 
 -- "No barriers: max(0; PEh − PEw) for calls, max(0; PEw − PEh) for puts." (annex section 5, b and c)
 abbrev pub strikeLoss : OptionType → Terms → Terms → ℕ
@@ -116,11 +122,11 @@ oneKindSpread (UpOut ouw) ouh s h w = cond (leb ouw ouh) (Margin (upOutSpread s 
 -- "Both down-and-out with ODh ≤ ODw"
 oneKindSpread (DownOut odw) odh s h w = cond (leb odh odw) (Margin (downOutSpread s odh odw h w)) Barred
 
--- The rules in document 01's order, of normalised positions. "Nothing else pairs."
+-- The rules in document 01's order, of normalised positions; of the second one document 02 [3] has the words. "Nothing else pairs."
 abbrev pub spreadBetween : Series → Terms → Terms → Spread
 spreadBetween s h w =
     cond (same h w) (Margin 0)
-    (cond (limiterBars (h .limiter) (w .limiter)) Barred
+    (cond (limiterBars (s .option) (h .limiter) (w .limiter)) Barred
     (cond (eqb (kindOf (h .barrier)) (kindOf (w .barrier)))
     (oneKindSpread (w .barrier) (priceOf (h .barrier)) s h w)
     Barred))

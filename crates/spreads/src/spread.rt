@@ -3,11 +3,11 @@ use crate::out::down_out_spread;
 use crate::out::up_out_spread;
 use crate::terms::is_knock_in;
 use crate::terms::kind_of;
+use crate::terms::limiter_bars;
 use crate::terms::price_of;
 use crate::terms::same_terms;
 use numbers::fine_units;
 use numbers::less;
-use position::quantities::has_limiter;
 use rules::Barrier;
 use rules::OptionType;
 use rules::Series;
@@ -74,14 +74,16 @@ fn identical_spread(h: Terms, w: Terms) -> Spread
 }
 
 // The unit spread margin of a held and a written row, of normalised positions, or no pair. Identical rows are asked for
-// only where no other rows pair: elsewhere the rules give them 0 by themselves.
+// only where no other rows pair, which is with knock-ins: elsewhere the rules give them 0 by themselves, and their limiters
+// bar no pair.
 pub fn spread_between(s: Series, h: Terms, w: Terms) -> Spread
     ensures { λ r. ⌜ r ≡ spreadBetween s h w ⌝ }
 {
+    let option = s.option;
     let held = h.limiter;
     let written = w.limiter;
-    if has_limiter(held) | has_limiter(written) {
-        return identical_spread(h, w);
+    if limiter_bars(option, held, written) {
+        return Spread::Barred;
     }
     let held = h.barrier;
     let written = w.barrier;

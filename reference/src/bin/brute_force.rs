@@ -3,10 +3,10 @@
 
 use std::process::ExitCode;
 
-use reference::brute_force::{check, reference_claim};
+use reference::brute_force::{check, limited_pairs, reference_claim};
 use reference::random::Random;
 use reference::reader::read_account;
-use reference::sample::{sample_account, Shape};
+use reference::sample::{limited_alike, sample_account, Shape};
 
 const LONGEST_PATH: usize = 4;
 
@@ -25,6 +25,14 @@ const HIGH_FB: Shape = Shape { fb_above_one: true, ..SMALL };
 /// No positions: nothing is owed on any path.
 const EMPTY: Shape = Shape { series: (1, 32), positions: (0, 0), ..WIDE };
 
+/// What was tried.
+#[derive(Default)]
+struct Tried {
+    pairs: usize,
+    limited_pairs: usize,
+    steps: u64,
+}
+
 fn main() -> ExitCode {
     let arguments: Vec<String> = std::env::args().skip(1).collect();
     let number = |at: usize, otherwise: u64| match arguments.get(at) {
@@ -36,9 +44,10 @@ fn main() -> ExitCode {
         return ExitCode::from(2);
     };
     match try_accounts(count, seed) {
-        Ok((pairs, steps)) => {
+        Ok(Tried { pairs, limited_pairs, steps }) => {
             println!(
-                "seed {seed}: {count} accounts, {pairs} pairs, {steps} path steps, no violation"
+                "seed {seed}: {count} accounts, {pairs} pairs, {limited_pairs} limited, \
+                 {steps} path steps, no violation"
             );
             ExitCode::SUCCESS
         }
@@ -49,10 +58,10 @@ fn main() -> ExitCode {
     }
 }
 
-/// How many pairs were made and path steps tried.
-fn try_accounts(count: u64, seed: u64) -> Result<(usize, u64), String> {
+/// In every other sixteen accounts limiters stand at and beside each other.
+fn try_accounts(count: u64, seed: u64) -> Result<Tried, String> {
     let mut random = Random::new(seed);
-    let (mut pairs, mut steps) = (0, 0);
+    let mut all = Tried::default();
     for tried in 0..count {
         let shape = match tried % 16 {
             5 => EMPTY,
@@ -60,13 +69,17 @@ fn try_accounts(count: u64, seed: u64) -> Result<(usize, u64), String> {
             7 | 15 => HIGH_FB,
             _ => SMALL,
         };
-        let bytes = sample_account(&mut random, &shape).bytes();
-        let account = read_account(&bytes)
+        let mut draft = sample_account(&mut random, &shape);
+        if tried / 16 % 2 == 1 {
+            draft = limited_alike(&mut random, draft);
+        }
+        let account = read_account(&draft.bytes())
             .map_err(|refusal| format!("account {tried}: the sample is refused: {refusal:?}"))?;
         let claim = reference_claim(&account);
-        steps += check(&account, &claim, LONGEST_PATH)
+        all.steps += check(&account, &claim, LONGEST_PATH)
             .map_err(|words| format!("account {tried}: {words}\n{account:#?}\n{claim:#?}"))?;
-        pairs += claim.margin.pairs.len();
+        all.pairs += claim.margin.pairs.len();
+        all.limited_pairs += limited_pairs(&account, &claim.margin);
     }
-    Ok((pairs, steps))
+    Ok(all)
 }

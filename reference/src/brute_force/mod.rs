@@ -3,7 +3,7 @@
 mod prices;
 mod series_paths;
 
-use crate::account::{Account, Side, MILLION};
+use crate::account::{Account, Limiter, Side, Terms, MILLION};
 use crate::lines::{margin, Margin};
 use crate::pairing::allowed_spread;
 use crate::position::written_unit_margin;
@@ -29,6 +29,17 @@ pub fn reference_claim(account: &Account) -> Claim {
         })
         .collect();
     Claim { units, margin: margin(account) }
+}
+
+/// Pairs of different options of which one or both have a limiter.
+pub fn limited_pairs(account: &Account, margin: &Margin) -> usize {
+    let limited = |terms: Terms| terms.limiter != Limiter::Absent;
+    margin
+        .pairs
+        .iter()
+        .map(|pair| [pair.written, pair.held].map(|row| account.positions[row].terms()))
+        .filter(|[written, held]| written != held && (limited(*written) || limited(*held)))
+        .count()
 }
 
 /// All four points. Gives the number of path steps tried, or the first

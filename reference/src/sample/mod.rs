@@ -2,7 +2,10 @@
 //! and often reused, so that equal prices, barriers met exactly, ties and
 //! pairs come up often.
 
+mod limiters;
 mod prices;
+
+pub use limiters::limited_alike;
 
 use crate::draft::{
     Draft, PositionDraft, SeriesDraft, CALL, DOWN_AND_IN, DOWN_AND_OUT, HELD, NO_BARRIER, PUT,

@@ -4,7 +4,7 @@ use super::rows::sound;
 use super::{Cases, Expect, SEED};
 use crate::position_row::FLAG_LIMITER;
 use crate::random::Random;
-use crate::sample::{sample_account, sample_series, Shape};
+use crate::sample::{limited_alike, sample_account, sample_series, Shape};
 
 const MIDDLE: Shape = Shape {
     series: (1, 6),
@@ -52,6 +52,18 @@ pub fn add_accounts(cases: &mut Cases) {
                 }
             }
             cases.accept(number.to_string(), draft);
+        }
+    }
+}
+
+/// Limiters at and beside each other.
+pub fn add_limited_accounts(cases: &mut Cases) {
+    cases.begin("random, limiters");
+    let mut random = Random::new(SEED + 5);
+    for (name, shape) in [("small prices", SMALL), ("one series", CROWDED)] {
+        for number in 0..7 {
+            let draft = sample_account(&mut random, &shape);
+            cases.accept(format!("{name} {number}"), limited_alike(&mut random, draft));
         }
     }
 }

@@ -12,6 +12,7 @@ mod equalities;
 mod extremes;
 mod kinds_and_flags;
 mod knock_out_spreads;
+mod limited_spreads;
 mod many_rows;
 mod no_positions;
 mod other_spreads;
@@ -78,6 +79,7 @@ pub fn all_cases() -> Vec<Case> {
         knock_out_spreads::add,
         knock_out_spreads::add_by_rebate,
         other_spreads::add,
+        limited_spreads::add,
         ties::add,
         amounts::add_rounding,
         amounts::add_premiums,
@@ -89,6 +91,7 @@ pub fn all_cases() -> Vec<Case> {
         row_faults::add,
         two_faults::add,
         by_chance::add_accounts,
+        by_chance::add_limited_accounts,
         by_chance::add_changed_bytes,
     ] {
         add(&mut cases);

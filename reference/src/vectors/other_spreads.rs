@@ -1,5 +1,5 @@
 //! Pairs that are barred, same options, and margins that just do or do not
-//! fall.
+//! fall. More of limiters stands in `limited_spreads`.
 
 use super::rows::{held, series_with_remainder, written};
 use super::Cases;

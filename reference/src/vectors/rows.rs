@@ -1,8 +1,8 @@
 //! Rows and series that the cases are made of.
 
 use crate::draft::{
-    Draft, PositionDraft, SeriesDraft, CALL, DOWN_AND_OUT, HELD, PUT, UP_AND_IN, UP_AND_OUT,
-    WRITTEN,
+    Draft, PositionDraft, SeriesDraft, CALL, DOWN_AND_IN, DOWN_AND_OUT, HELD, NO_BARRIER, PUT,
+    UP_AND_IN, UP_AND_OUT, WRITTEN,
 };
 
 pub fn written(series: u16, strike: u32, quantity: u32) -> PositionDraft {
@@ -15,6 +15,21 @@ pub fn held(series: u16, strike: u32, quantity: u32) -> PositionDraft {
 
 pub fn is_up(kind: u8) -> bool {
     kind == UP_AND_IN || kind == UP_AND_OUT
+}
+
+/// The row of a call as one of a put: every price as far on the other side of
+/// PV 3000, and a barrier of the other direction.
+pub fn mirrored(row: &PositionDraft) -> PositionDraft {
+    let across = |price: u32| if price == 0 { 0 } else { 6000 - price };
+    let [strike, limiter, barrier] = [row.strike, row.limiter, row.barrier].map(across);
+    let kind = match row.kind {
+        UP_AND_IN => DOWN_AND_IN,
+        DOWN_AND_IN => UP_AND_IN,
+        UP_AND_OUT => DOWN_AND_OUT,
+        DOWN_AND_OUT => UP_AND_OUT,
+        _ => NO_BARRIER,
+    };
+    PositionDraft { kind, strike, limiter, barrier, ..*row }
 }
 
 /// The two series of the checked values, call and put.

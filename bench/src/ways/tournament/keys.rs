@@ -1,13 +1,13 @@
 //! Held rows in the order of their strikes. A key is one number: series, family, strike, row.
 
-use reference::account::{Barrier, Limiter, Terms};
+use reference::account::{Barrier, Terms};
 
 use crate::ways::{Row, Rows, HIGHEST};
 
 /// Above every key and every rank.
 pub const NONE: u64 = u64::MAX;
 
-/// Knock-ins and rows with a limiter, which pair with rows of the same terms alone.
+/// Knock-ins, which pair with rows of the same terms alone.
 pub const SAME_TERMS: u64 = 3;
 
 /// The place of the highest strike of the last family and series.
@@ -15,11 +15,11 @@ const LAST: u64 = 127 << 32 | HIGHEST << 8;
 
 /// Rows of different families never pair.
 pub fn family(terms: &Terms) -> u64 {
-    match (terms.limiter, terms.barrier) {
-        (Limiter::Absent, Barrier::None) => 0,
-        (Limiter::Absent, Barrier::UpAndOut(_)) => 1,
-        (Limiter::Absent, Barrier::DownAndOut(_)) => 2,
-        _ => SAME_TERMS,
+    match terms.barrier {
+        Barrier::None => 0,
+        Barrier::UpAndOut(_) => 1,
+        Barrier::DownAndOut(_) => 2,
+        Barrier::UpAndIn(_) | Barrier::DownAndIn(_) => SAME_TERMS,
     }
 }
 
