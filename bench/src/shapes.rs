@@ -61,7 +61,7 @@ pub const SHAPES: [Shape; 19] = [
     shape("hostile limiters", true, 1, |random, i, n, row| {
         limiters(random, i, n, row);
         if i == 0 {
-            // The nearest of all: every held row can pair with this one.
+            // The nearest of all: no held limiter bars a pair with this row.
             *row = row.with_limiter(3300);
         }
     }),

@@ -104,7 +104,7 @@ def corners(points):
 
 def marks_of(row):
     """Strike, limiter, barrier and the stressed price after a knock-in: name, price, row of the name below the axis."""
-    marks = [('PE', row.PE, 0)] + ([('PB', row.PB, 1)] if row.PB else [])
+    marks = [('PE', row.PE, 0)] + ([('PB', row.PB, 1)] if row.PB is not None else [])
     if row.kind:
         marks.append((BARRIERS[row.kind], row.barrier, 1))
     if row.kind == 'down-and-in' and row.series.type == 'call':
@@ -130,7 +130,7 @@ def spread_picture(title, written, held):
     margins = [ticks(unit_spread(written, held).value), ticks(unit_margin(written).value)]
     same(title, margins, [max(loss for _, loss in curve.points()) for curve in lines])
     marks = [('PEw', written.PE, 0), ('PEh', held.PE, 1)]
-    marks += [(name, row.PB, depth) for name, row, depth in (('PBw', written, 0), ('PBh', held, 1)) if row.PB]
+    marks += [(name, row.PB, depth) for name, row, depth in (('PBw', written, 0), ('PBh', held, 1)) if row.PB is not None]
     return drawn(title, written.series, lines, margins, marks, beyond=True)
 
 

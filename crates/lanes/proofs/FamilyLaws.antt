@@ -1,24 +1,26 @@
 -- Rows that may pair are of one family, and knock-ins that may pair have one strike.
 -- Assumes nothing.
 use Prim.Native.Nat.{ℕ, _≤_}
-use mathlib.Core.Bool.{Bool, true, false, cond}
+use mathlib.Core.Bool.{true, cond}
+use mathlib.Core.Logic.{⊎-elim}
 use mathlib.Core.Path.{_≡_, refl, sym, ap, _∙_}
 use native.Mathlib.Omega.{arith}
 use lib.Dec.{eqb}
 use borrow.Author.Tests.{eqb-true}
 use Rattle.lanes.specs.Keys.{barrierFamily, family}
 use Rattle.rules.proofs.MayPair.{may-pairable}
+use Rattle.rules.proofs.RowFacts.{flag-1-leaves}
 use Rattle.rules.proofs.SameRows.{same-terms}
+use Rattle.rules.proofs.SpreadForms.{barred, spread-made}
 use Rattle.rules.specs.File.{Account}
-use Rattle.rules.specs.OnePosition.{afterFlag1, normal}
+use Rattle.rules.specs.OnePosition.{normal}
 use Rattle.rules.specs.Pairs.{mayOf}
-use Rattle.rules.specs.Spreads.{kindOf, limiterBars, oneKindSpread, priceOf, same, spreadBetween, unitSpread}
+use Rattle.rules.specs.Spreads.{kindOf, oneKindSpread, priceOf, same, spreadBetween, unitSpread}
 use Rattle.rules.specs.declared.Barrier.{Barrier}
 use Rattle.rules.specs.declared.Barrier.the-variants.{NoBarrier, UpIn, DownIn, UpOut, DownOut}
 use Rattle.rules.specs.declared.Position.{Position}
 use Rattle.rules.specs.declared.Series.{Series}
-use Rattle.rules.specs.declared.Spread.{Spread}
-use Rattle.rules.specs.declared.Spread.the-variants.{Barred, Margin}
+use Rattle.rules.specs.declared.Spread.the-variants.{Margin}
 use Rattle.rules.specs.declared.Terms.{Terms}
 
 kindFamily : ℕ → ℕ
@@ -46,9 +48,6 @@ pub family-most : (p : Position) → family p ≤ 3
 unfolding family
 family-most p = barrier-most (normal p .barrier)
 
-barred : (u : ℕ) {A : Type 0} → Barred ≡ Margin u → A
-barred u e = let z : _≡_ {A = ℕ} 0 1 = cc in absurd (omega arith)
-
 -- A barrier whose own rule gives a margin is no knock-in.
 no-knock-in : (b : Barrier) (x u : ℕ) (s : Series) (h w : Terms) → oneKindSpread b x s h w ≡ Margin u → barrierFamily b ≡ 3 → w .pe ≡ h .pe
 no-knock-in NoBarrier x u s h w e f = absurd (omega arith)
@@ -72,22 +71,7 @@ module _ (s : Series) (h w : Terms) (u : ℕ) where
   unlike k e = (sym (one-kind (h .barrier) (w .barrier) k), no-knock-in (w .barrier) (priceOf (h .barrier)) u s h w e)
 
   terms-family : spreadBetween s h w ≡ Margin u → OneFamily
-  terms-family = go (same h w) (limiterBars (s .option) (h .limiter) (w .limiter)) (eqb (kindOf (h .barrier)) (kindOf (w .barrier))) refl refl
-    where
-      go : (x y z : Bool) → same h w ≡ x → eqb (kindOf (h .barrier)) (kindOf (w .barrier)) ≡ z
-          → cond x (Margin 0) (cond y Barred (cond z (oneKindSpread (w .barrier) (priceOf (h .barrier)) s h w) Barred)) ≡ Margin u
-          → OneFamily
-      go true y z a c e = alike a
-      go false true z a c e = barred u e
-      go false false true a c e = unlike c e
-      go false false false a c e = barred u e
-
-pub normal-pe : (p : Position) → normal p .pe ≡ p .terms .pe
-normal-pe p = go (p .flags .knockedIn)
-  where
-    go : (t : Bool) → afterFlag1 t (p .terms) .pe ≡ p .terms .pe
-    go true = refl
-    go false = refl
+  terms-family e = ⊎-elim alike (λ t. unlike (t .1) (t .2)) (spread-made s h w u e)
 
 -- Two rows that may pair.
 pub may-family : (a : Account) (w h : ℕ) → mayOf a w h ≡ true
@@ -96,4 +80,4 @@ unfolding unitSpread family
 may-family a w h e =
     let p = may-pairable a w h e in
     let t = terms-family _ (normal (a .positionAt h)) (normal (a .positionAt w)) (p .spread) (p .spread-is) in
-    (t .0, λ q. sym (normal-pe (a .positionAt w)) ∙ t .1 q ∙ normal-pe (a .positionAt h))
+    (t .0, λ q. sym (flag-1-leaves (a .positionAt w) .0) ∙ t .1 q ∙ flag-1-leaves (a .positionAt h) .0)

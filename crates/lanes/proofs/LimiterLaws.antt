@@ -1,8 +1,8 @@
--- Rows that may pair: the held row's limiter is no nearer than the written one's, so that it is met. The nearest limiters row
+-- Rows that may pair: the held row's limiter is no nearer than the written one's, so that it fits. The nearest limiters row
 -- by row.
 -- Assumes nothing.
 use Prim.Native.Nat.{ℕ, zero, suc, _+_, _≤_, _<_, max}
-use mathlib.Core.Bool.{Bool, true, false, cond, true≢false}
+use mathlib.Core.Bool.{true, false, cond, true≢false}
 use mathlib.Core.List.{List}
 use mathlib.Core.Logic.{_⊎_, inl, inr}
 use mathlib.Core.Path.{_≡_, refl, sym, ap, _∙_}
@@ -12,25 +12,21 @@ use lib.Dec.{eqb, leb}
 use lib.ListN.{getD-replicate, length, replicate, set}
 use lib.Seq.{getD-set-other, getD-set-same}
 use borrow.Author.Tests.{eq-eqb, le-leb, ltb-false, ne-eqb}
-use Rattle.lanes.specs.Limiters.{Nearest, ifWritten, isMet, nearest, nearness, nearnessOf}
+use Rattle.lanes.specs.Limiters.{Nearest, ifWritten, limiterFits, nearest, nearness, nearnessOf}
 use Rattle.numbers.proofs.Order.{newest, same as decide}
 use Rattle.numbers.specs.Lists.{nth}
 use Rattle.rules.proofs.MayPair.{may-pairable}
-use Rattle.rules.proofs.SameRows.{same-terms}
-use Rattle.rules.proofs.SpreadForms.{self-unbarred}
+use Rattle.rules.proofs.RowFacts.{flag-1-leaves}
+use Rattle.rules.proofs.SpreadForms.{made-unbarred}
 use Rattle.rules.specs.File.{Account, seriesOfRow}
-use Rattle.rules.specs.OnePosition.{afterFlag1, normal}
+use Rattle.rules.specs.OnePosition.{normal}
 use Rattle.rules.specs.Pairs.{mayOf}
-use Rattle.rules.specs.Spreads.{kindOf, limiterBars, oneKindSpread, priceOf, same, spreadBetween, unitSpread}
+use Rattle.rules.specs.Spreads.{limiterBars, unitSpread}
 use Rattle.rules.specs.declared.Limiter.{Limiter}
 use Rattle.rules.specs.declared.Limiter.the-variants.{NoLimiter, At}
 use Rattle.rules.specs.declared.OptionType.{OptionType}
 use Rattle.rules.specs.declared.OptionType.the-variants.{Call, Put}
 use Rattle.rules.specs.declared.Position.{Position}
-use Rattle.rules.specs.declared.Series.{Series}
-use Rattle.rules.specs.declared.Spread.{Spread}
-use Rattle.rules.specs.declared.Spread.the-variants.{Barred, Margin}
-use Rattle.rules.specs.declared.Terms.{Terms}
 
 -- Limiters that bar no pair.
 no-nearer : (k : OptionType) (h w : Limiter) → limiterBars k h w ≡ false → nearness k h ≤ nearness k w
@@ -39,31 +35,13 @@ no-nearer k (At pbh) NoLimiter e = absurd (true≢false e)
 no-nearer Call (At pbh) (At pbw) e = let o = ltb-false pbh pbw e in omega arith
 no-nearer Put (At pbh) (At pbw) e = let o = ltb-false pbw pbh e in omega arith
 
--- Two normalised positions with a spread.
-unbarred : (s : Series) (h w : Terms) (u : ℕ) → spreadBetween s h w ≡ Margin u → limiterBars (s .option) (h .limiter) (w .limiter) ≡ false
-unbarred s h w u = go (same h w) (limiterBars (s .option) (h .limiter) (w .limiter)) refl refl
-  where
-    go : (x y : Bool) → same h w ≡ x → limiterBars (s .option) (h .limiter) (w .limiter) ≡ y
-        → cond x (Margin 0) (cond y Barred (cond (eqb (kindOf (h .barrier)) (kindOf (w .barrier))) (oneKindSpread (w .barrier) (priceOf (h .barrier)) s h w) Barred)) ≡ Margin u
-        → y ≡ false
-    go x false a b e = refl
-    go true true a b e =
-        absurd (true≢false (sym b ∙ ap (λ (t : Terms). limiterBars (s .option) (t .limiter) (w .limiter)) (same-terms h w a) ∙ self-unbarred (s .option) (w .limiter)))
-    go false true a b e = let z : _≡_ {A = ℕ} 0 1 = cc in absurd (omega arith)
-
-normal-limiter : (p : Position) → normal p .limiter ≡ p .terms .limiter
-normal-limiter p = go (p .flags .knockedIn)
-  where
-    go : (t : Bool) → afterFlag1 t (p .terms) .limiter ≡ p .terms .limiter
-    go true = refl
-    go false = refl
-
--- A written row's limiter is no nearer than the nearest of its series.
+-- The nearest limiter with one row more.
 nearest-more : (a : Account) (s n : ℕ)
     → nearest a s (n + 1) ≡ max (nearest a s n) (cond (eqb (a .positionAt n .series) s) (ifWritten (a .positionAt n .side) (nearnessOf a n)) 0)
 unfolding nearest
 nearest-more a s n = rw add-one refl
 
+-- A written row's limiter is no nearer than the nearest of its series.
 nearest-most : (a : Account) (s w n : ℕ) → w < n → a .positionAt w .series ≡ s → ifWritten (a .positionAt w .side) (nearnessOf a w) ≤ nearest a s n
 unfolding nearest
 nearest-most a s w zero l e = absurd (omega arith)
@@ -74,21 +52,21 @@ nearest-most a s w (suc n) l e = go (newest w n (omega arith)) (λ b. nearest-mo
     go (inl q) f = rw (sym q, eq-eqb (a .positionAt w .series) s e) (omega arith)
     go (inr b) f = omega (arith, f b)
 
--- Two rows that may pair.
-pub may-met : (a : Account) (w h : ℕ) → w < a .positions → mayOf a w h ≡ true → isMet a h ≡ true
+-- Of two rows that may pair the held one's limiter fits.
+pub may-fit : (a : Account) (w h : ℕ) → w < a .positions → mayOf a w h ≡ true → limiterFits a h ≡ true
 unfolding unitSpread
-may-met a w h l e =
+may-fit a w h l e =
     let p = may-pairable a w h e in
-    let P = a .positionAt w in
-    let H = a .positionAt h in
+    let written = a .positionAt w in
+    let held = a .positionAt h in
     let s = seriesOfRow a w in
-    let free = unbarred s (normal H) (normal P) (p .spread) (p .spread-is) in
-    let near = no-nearer (s .option) (normal H .limiter) (normal P .limiter) free in
+    let free = made-unbarred s (normal held) (normal written) (p .spread) (p .spread-is) in
+    let near = no-nearer (s .option) (normal held .limiter) (normal written .limiter) free in
     let one : seriesOfRow a w ≡ seriesOfRow a h = ap (a .seriesAt) (p .one-series) in
-    let held : nearnessOf a h ≡ nearness (s .option) (normal H .limiter) = rw (one, normal-limiter H) refl in
-    let own : nearnessOf a w ≡ nearness (s .option) (normal P .limiter) = rw (normal-limiter P) refl in
-    let most = rw (p .is-written) at (nearest-most a (H .series) w (a .positions) l (p .one-series)) in
-    le-leb (nearnessOf a h) (nearest a (H .series) (a .positions)) (omega (arith, near, held, own, most))
+    let of-held : nearnessOf a h ≡ nearness (s .option) (normal held .limiter) = rw (one, flag-1-leaves held .1) refl in
+    let of-written : nearnessOf a w ≡ nearness (s .option) (normal written .limiter) = rw (flag-1-leaves written .1) refl in
+    let most = rw (p .is-written) at (nearest-most a (held .series) w (a .positions) l (p .one-series)) in
+    le-leb (nearnessOf a h) (nearest a (held .series) (a .positions)) (omega (arith, near, of-held, of-written, most))
 
 -- One row more.
 module _ (a : Account) (n : ℕ) (near : List ℕ) (f : Nearest a n near) where
@@ -105,9 +83,9 @@ module _ (a : Account) (n : ℕ) (near : List ℕ) (f : Nearest a n near) where
           (getD-set-other near s t y 0 d ∙ f t lt ∙ omega arith)
 
 -- The code's test of a row p that it read.
-pub is-met : (a : Account) (near : List ℕ) → Nearest a (a .positions) near → (p : Position) (r x : ℕ) → p ≡ a .positionAt r → p .series < 32
-    → x ≡ nearness (a .seriesAt (p .series) .option) (p .terms .limiter) → leb x (nth near (p .series)) ≡ isMet a r
-is-met a near f p r x e l ex =
+pub limiter-fits : (a : Account) (near : List ℕ) → Nearest a (a .positions) near → (p : Position) (r x : ℕ) → p ≡ a .positionAt r → p .series < 32
+    → x ≡ nearness (a .seriesAt (p .series) .option) (p .terms .limiter) → leb x (nth near (p .series)) ≡ limiterFits a r
+limiter-fits a near f p r x e l ex =
     rw (f (p .series) l, ex)
     (ap (λ (q : Position). leb (nearness (a .seriesAt (q .series) .option) (q .terms .limiter)) (nearest a (q .series) (a .positions))) e)
 

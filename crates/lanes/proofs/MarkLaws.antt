@@ -2,9 +2,8 @@
 -- Assumes nothing.
 use Prim.Native.Nat.{ℕ, _+_, _-_, _/_, _%_, _≤_}
 use mathlib.Core.Bool.{Bool, true, false, cond}
-use mathlib.Core.Path.{_≡_, refl, sym, ap, _∙_}
+use mathlib.Core.Path.{_≡_, refl, ap, _∙_}
 use native.Mathlib.Omega.{arith}
-use lib.Dec.{eqb}
 use borrow.Author.Tests.{eq-eqb, ne-eqb}
 use Rattle.lanes.proofs.FamilyLaws.{family-most}
 use Rattle.lanes.proofs.KeyLaws.{place-most}
@@ -22,23 +21,23 @@ pub family-is : (p : Position) (n : Terms) (x : ℕ) → n ≡ normal p → x �
 unfolding family
 family-is p n x is q = q ∙ ap (λ (t : Terms). barrierFamily (t .barrier)) is
 
-side-most : (met : Bool) (s : Side) → sideRole met s ≤ 2
+side-most : (fits : Bool) (s : Side) → sideRole fits s ≤ 2
 side-most true Held = omega arith
 side-most false Held = omega arith
-side-most met Written = omega arith
+side-most fits Written = omega arith
 
-pub role-most : (met : Bool) (p : Position) → roleOf met p ≤ 2
-role-most met p = go (europeanOrBeforeAnnex p)
+pub role-most : (fits : Bool) (p : Position) → roleOf fits p ≤ 2
+role-most fits p = go (europeanOrBeforeAnnex p)
   where
-    go : (t : Bool) → cond t (sideRole met (p .side)) 2 ≤ 2
-    go true = side-most met (p .side)
+    go : (t : Bool) → cond t (sideRole fits (p .side)) 2 ≤ 2
+    go true = side-most fits (p .side)
     go false = omega arith
 
-pub role-pairs : (met : Bool) (p : Position) (x : ℕ) → europeanOrBeforeAnnex p ≡ true → x ≡ sideRole met (p .side) → x ≡ roleOf met p
-role-pairs met p x e q = rw e q
+pub role-pairs : (fits : Bool) (p : Position) (x : ℕ) → europeanOrBeforeAnnex p ≡ true → x ≡ sideRole fits (p .side) → x ≡ roleOf fits p
+role-pairs fits p x e q = rw e q
 
-pub role-none : (met : Bool) (p : Position) → europeanOrBeforeAnnex p ≡ false → 2 ≡ roleOf met p
-role-none met p e = rw e refl
+pub role-none : (fits : Bool) (p : Position) → europeanOrBeforeAnnex p ≡ false → 2 ≡ roleOf fits p
+role-none fits p e = rw e refl
 
 -- The top, return by return.
 module _ (o x : ℕ) where
@@ -61,24 +60,24 @@ module _ (o x : ℕ) where
   from-down q y r = rw (r, ne-eqb o 256 q)
 
 -- A row's mark.
-module _ (met : Bool) (p : Position) (ok : InRange p) where
-  pub mark-most : markOf met p ≤ last
-  mark-most = omega (arith, place-most p ok, role-most met p)
+module _ (fits : Bool) (p : Position) (ok : InRange p) where
+  pub mark-most : markOf fits p ≤ last
+  mark-most = omega (arith, place-most p ok, role-most fits p)
 
-  pub mark-role : markOf met p % 256 ≡ roleOf met p
-  mark-role = omega (arith, role-most met p)
+  pub mark-role : markOf fits p % 256 ≡ roleOf fits p
+  mark-role = omega (arith, role-most fits p)
 
-  pub mark-place : markPlace (markOf met p) ≡ placeOf p
-  mark-place = omega (arith, role-most met p)
+  pub mark-place : markPlace (markOf fits p) ≡ placeOf p
+  mark-place = omega (arith, role-most fits p)
 
-  mark-group : markGroup (markOf met p) ≡ groupOf p
-  mark-group = omega (arith, role-most met p, ok .pe-most)
+  mark-group : markGroup (markOf fits p) ≡ groupOf p
+  mark-group = omega (arith, role-most fits p, ok .pe-most)
 
-  mark-family : markOf met p / 1_099_511_627_776 % 4 ≡ family p
-  mark-family = omega (arith, role-most met p, ok .pe-most, family-most p)
+  mark-family : markOf fits p / 1_099_511_627_776 % 4 ≡ family p
+  mark-family = omega (arith, role-most fits p, ok .pe-most, family-most p)
 
-  pub mark-from : (o : ℕ) → markFrom o (markOf met p) ≡ fromOf o p
+  pub mark-from : (o : ℕ) → markFrom o (markOf fits p) ≡ fromOf o p
   mark-from o = rw mark-place refl
 
-  pub mark-top : (o : ℕ) → markTop o (markOf met p) ≡ topOf o p
+  pub mark-top : (o : ℕ) → markTop o (markOf fits p) ≡ topOf o p
   mark-top o = rw (mark-family, mark-place, mark-group) refl

@@ -13,16 +13,15 @@ use borrow.Author.Tests.{eq-eqb, ne-eqb}
 use Rattle.lanes.proofs.FileFacts.{Ranged, row-range}
 use Rattle.lanes.proofs.MarkLaws.{mark-from, mark-most, mark-role}
 use Rattle.lanes.specs.Keys.{LeastKey, Links, from, inLanes, isLinked, key, last, pairsAsHeld, pairsAsWritten}
-use Rattle.lanes.specs.Limiters.{isMet}
+use Rattle.lanes.specs.Limiters.{ifWritten, limiterFits}
 use Rattle.lanes.specs.Links.{Linked, LinksFilled, MarkLinks, Ordered, downKey, heldFrom, laneKey, markKey, markLinkFrom, writtenFrom}
-use Rattle.lanes.specs.Marks.{Marked, Marks, Sorted, TableFilled, markFrom, markOf, markPlace, roleOf, sideRole, sideUnit}
+use Rattle.lanes.specs.Marks.{Marked, Marks, Sorted, TableFilled, markFrom, markOf, markPlace, roleOf, sideRole}
 use Rattle.numbers.proofs.Order.{newest, split}
 use Rattle.numbers.specs.Lists.{nth}
 use Rattle.rules.specs.File.{Account, seriesOfRow}
 use Rattle.rules.specs.OnePosition.{unitMargin}
 use Rattle.rules.specs.Pairs.{europeanOrBeforeAnnex, isHeld, isWritten}
 use Rattle.rules.specs.declared.Position.{Position}
-use Rattle.rules.specs.declared.Series.{Series}
 use Rattle.rules.specs.declared.Side.{Side}
 use Rattle.rules.specs.declared.Side.the-variants.{Held, Written}
 
@@ -152,8 +151,8 @@ module _ (table keys written was now : List ℕ) (n m p : ℕ) (few : p ≤ 256)
       }
 
 -- The marks of an account's rows.
-role-held : (met : Bool) (p : Position) → eqb (roleOf met p) 0 ≡ (pairsAsHeld p && met)
-role-held met p = go met (europeanOrBeforeAnnex p) (p .side)
+role-held : (fits : Bool) (p : Position) → eqb (roleOf fits p) 0 ≡ (pairsAsHeld p && fits)
+role-held fits p = go fits (europeanOrBeforeAnnex p) (p .side)
   where
     go : (m t : Bool) (s : Side) → eqb (cond t (sideRole m s) 2) 0 ≡ (isHeld s && t && m)
     go true true Held = refl
@@ -163,8 +162,8 @@ role-held met p = go met (europeanOrBeforeAnnex p) (p .side)
     go m false Written = refl
 
 -- A row that has links is held or written in a pair.
-role-linked : (met : Bool) (p : Position) → (pairsAsHeld p && met || pairsAsWritten p) ≡ true → roleOf met p < 2
-role-linked met p = go met (europeanOrBeforeAnnex p) (p .side)
+role-linked : (fits : Bool) (p : Position) → (pairsAsHeld p && fits || pairsAsWritten p) ≡ true → roleOf fits p < 2
+role-linked fits p = go fits (europeanOrBeforeAnnex p) (p .side)
   where
     go : (m t : Bool) (s : Side) → (isHeld s && t && m || isWritten s && t) ≡ true → cond t (sideRole m s) 2 < 2
     go true true Held e = omega arith
@@ -174,20 +173,20 @@ role-linked met p = go met (europeanOrBeforeAnnex p) (p .side)
     go m false Written e = absurd (false≢true e)
 
 module _ (a : Account) (ok : Ranged a) (table : List ℕ) (marks : Marks a table) where
-  row-role : (r : ℕ) → r < a .positions → nth table r % 256 ≡ roleOf (isMet a r) (a .positionAt r)
-  row-role r l = ap (λ x. x % 256) (marks r l) ∙ mark-role (isMet a r) (a .positionAt r) (row-range a ok r l)
+  row-role : (r : ℕ) → r < a .positions → nth table r % 256 ≡ roleOf (limiterFits a r) (a .positionAt r)
+  row-role r l = ap (λ x. x % 256) (marks r l) ∙ mark-role (limiterFits a r) (a .positionAt r) (row-range a ok r l)
 
   row-held : (r : ℕ) → r < a .positions → eqb (nth table r % 256) 0 ≡ inLanes a r
-  row-held r l = ap (λ x. eqb x 0) (row-role r l) ∙ role-held (isMet a r) (a .positionAt r)
+  row-held r l = ap (λ x. eqb x 0) (row-role r l) ∙ role-held (limiterFits a r) (a .positionAt r)
 
   row-from : (o r : ℕ) → r < a .positions → markFrom o (nth table r) ≡ from a o r
-  row-from o r l = ap (markFrom o) (marks r l) ∙ mark-from (isMet a r) (a .positionAt r) (row-range a ok r l) o
+  row-from o r l = ap (markFrom o) (marks r l) ∙ mark-from (limiterFits a r) (a .positionAt r) (row-range a ok r l) o
 
   pub row-most : (r : ℕ) → r < a .positions → nth table r ≤ last
-  row-most r l = rw (marks r l) (mark-most (isMet a r) (a .positionAt r) (row-range a ok r l))
+  row-most r l = rw (marks r l) (mark-most (limiterFits a r) (a .positionAt r) (row-range a ok r l))
 
   row-linked : (r : ℕ) → r < a .positions → isLinked a r ≡ true → nth table r % 256 < 2
-  row-linked r l e = rw (row-role r l) (role-linked (isMet a r) (a .positionAt r) e)
+  row-linked r l e = rw (row-role r l) (role-linked (limiterFits a r) (a .positionAt r) e)
 
   links-as : (o : ℕ) (new : List ℕ) → MarkLinks table (a .positions) o new → Links a o new
   links-as o new f r l e =
@@ -196,9 +195,9 @@ module _ (a : Account) (ok : Ranged a) (table : List ℕ) (marks : Marks a table
       (rw (row-held r l, row-from o r l) refl) refl
       (f r l (row-linked r l e))
 
-unit-is : (side : Side) (s : Series) (p : Position) → isWritten side ≡ true → sideUnit side s p ≡ unitMargin s p
-unit-is Held s p e = let z : _≡_ {A = ℕ} 0 1 = cc in absurd (omega arith)
-unit-is Written s p e = refl
+unit-is : (side : Side) (x : ℕ) → isWritten side ≡ true → ifWritten side x ≡ x
+unit-is Held x e = absurd (false≢true e)
+unit-is Written x e = refl
 
 -- Marks and unit margins stored row by row.
 module _ (a : Account) (old : List ℕ) where
@@ -211,9 +210,9 @@ module _ (a : Account) (old : List ℕ) where
       }
 
   module _ (m : ℕ) (was : List ℕ) (row : m < 256) (room : 1024 ≤ length was) (f : Marked a m old was) where
-    pub marked-more : (met : Bool) (p : Position) (x u : ℕ) → p ≡ a .positionAt m → met ≡ isMet a m → x ≡ markOf met p → u ≡ sideUnit (p .side) (a .seriesAt (p .series)) p
+    pub marked-more : (fits : Bool) (p : Position) (x u : ℕ) → p ≡ a .positionAt m → fits ≡ limiterFits a m → x ≡ markOf fits p → u ≡ ifWritten (p .side) (unitMargin (a .seriesAt (p .series)) p)
         → Marked a (m + 1) old (set (set was m x) (768 + m) u)
-    marked-more met p x u ep em ex eu =
+    marked-more fits p x u ep em ex eu =
         record {
           marks = λ r l. marks r (newest r m l);
           units = λ r l. units r (newest r m l);
@@ -226,18 +225,18 @@ module _ (a : Account) (old : List ℕ) where
         other : (i : ℕ) → (i ≡ m → ⊥) → (i ≡ 768 + m → ⊥) → nth new i ≡ nth was i
         other i y z = getD-set-other (set was m x) (768 + m) i u 0 z ∙ getD-set-other was m i x 0 y
 
-        marks : (r : ℕ) → (r ≡ m) ⊎ (r < m) → nth new r ≡ markOf (isMet a r) (a .positionAt r)
+        marks : (r : ℕ) → (r ≡ m) ⊎ (r < m) → nth new r ≡ markOf (limiterFits a r) (a .positionAt r)
         marks r (inl q) =
             rw q
             (getD-set-other (set was m x) (768 + m) m u 0 (λ (q : m ≡ 768 + m). omega arith)
             ∙ getD-set-same was m x 0 (omega arith) ∙ ex ∙ ap₂ markOf em ep)
         marks r (inr l) = other r (λ (q : r ≡ m). omega arith) (λ (q : r ≡ 768 + m). omega arith) ∙ f .marks r l
 
-        units : (r : ℕ) → (r ≡ m) ⊎ (r < m) → nth new (768 + r) ≡ sideUnit (a .positionAt r .side) (seriesOfRow a r) (a .positionAt r)
+        units : (r : ℕ) → (r ≡ m) ⊎ (r < m) → nth new (768 + r) ≡ ifWritten (a .positionAt r .side) (unitMargin (seriesOfRow a r) (a .positionAt r))
         units r (inl q) =
             rw q
             (getD-set-same (set was m x) (768 + m) u 0 (simp length-set (omega arith))
-            ∙ eu ∙ ap (λ (y : Position). sideUnit (y .side) (a .seriesAt (y .series)) y) ep)
+            ∙ eu ∙ ap (λ (y : Position). ifWritten (y .side) (unitMargin (a .seriesAt (y .series)) y)) ep)
         units r (inr l) = other (768 + r) (λ (q : 768 + r ≡ m). omega arith) (λ (q : 768 + r ≡ 768 + m). omega arith) ∙ f .units r l
 
 pub table-filled : (a : Account) → Ranged a → (old was new written : List ℕ) (n : ℕ) → 1280 ≤ length new → Marked a (a .positions) old was
@@ -248,7 +247,7 @@ table-filled a ok old was new written n room f g h =
           record {
             room = room;
             marks = λ r l. same r l ∙ f .marks r l;
-            units = λ r l e. h .rest (768 + r) (omega arith) ∙ f .units r l ∙ unit-is (a .positionAt r .side) _ _ e;
+            units = λ r l e. h .rest (768 + r) (omega arith) ∙ f .units r l ∙ unit-is (a .positionAt r .side) _ e;
             up = links-as a ok was (f .marks) 256 new (h .up);
             down = links-as a ok was (f .marks) 512 new (h .down);
           };

@@ -7,7 +7,7 @@ use mathlib.Core.Bool.{Bool, true, cond, _&&_, _||_}
 use mathlib.Core.List.{List}
 use mathlib.Core.Path.{_≡_}
 use lib.Dec.{eqb}
-use Rattle.lanes.specs.Limiters.{isMet}
+use Rattle.lanes.specs.Limiters.{limiterFits}
 use Rattle.numbers.specs.Lists.{nth}
 use Rattle.rules.specs.File.{Account}
 use Rattle.rules.specs.Limits.{mostPositions}
@@ -50,9 +50,10 @@ pairsAsHeld p = isHeld (p .side) && europeanOrBeforeAnnex p
 abbrev pub pairsAsWritten : Position → Bool
 pairsAsWritten p = isWritten (p .side) && europeanOrBeforeAnnex p
 
--- The held rows in the lanes: those with a limiter that no written row meets are left out.
+-- The held rows in the lanes. One whose limiter is nearer than that of every written row of its series is left out: it is in
+-- no pair.
 abbrev pub inLanes : Account → ℕ → Bool
-inLanes a r = pairsAsHeld (a .positionAt r) && isMet a r
+inLanes a r = pairsAsHeld (a .positionAt r) && limiterFits a r
 
 -- The rows that have links.
 abbrev pub isLinked : Account → ℕ → Bool
@@ -87,8 +88,8 @@ placeOf p = groupOf p + p .terms .pe * 256
 abbrev pub fromOf : ℕ → Position → ℕ
 fromOf o p = cond (eqb o upLane) (placeOf p) (last - placeOf p)
 
--- Where the keys of the rows end that may pair with p: with the group, or with the strike. Identical rows have one strike,
--- which the down lane does not have.
+-- Where the keys of the rows end that may pair with p: with the group, or for knock-ins with the strike, where no written row
+-- looks in the down lane.
 abbrev pub topOf : ℕ → Position → ℕ
 topOf o p =
     cond (eqb (family p) 3)

@@ -1,5 +1,6 @@
--- How near limiters are. A held row whose limiter is nearer than that of every written row of its series is in no pair
--- (document 02 [3]), so that it stays out of the lanes.
+-- How near limiters are. A limiter is the nearer the sooner it stops the payoff: at a lower price for a call, at a higher one
+-- for a put. A held row whose limiter is nearer than that of every written row of its series is in no pair (document 02
+-- [3]), so that it stays out of the lanes.
 use Prim.Native.Nat.{ℕ, zero, suc, _+_, _-_, _<_, max}
 use mathlib.Core.Bool.{Bool, cond}
 use mathlib.Core.List.{List}
@@ -15,21 +16,22 @@ use Rattle.rules.specs.declared.OptionType.the-variants.{Call, Put}
 use Rattle.rules.specs.declared.Side.{Side}
 use Rattle.rules.specs.declared.Side.the-variants.{Held, Written}
 
--- The nearer a limiter is, the more: at a lower price for a call, at a higher one for a put. PB is at most 10,000,000.
+-- How near a limiter at this price is: a number that is greater where it is nearer, and at least 1, since PB is at most
+-- 10,000,000.
 abbrev pub priceNearness : OptionType → ℕ → ℕ
 priceNearness Call pb = 10_000_001 - pb
 priceNearness Put pb = pb + 1
 
--- 0 without a limiter.
+-- How near a row's limiter is; 0 without one.
 abbrev pub nearness : OptionType → Limiter → ℕ
 nearness option NoLimiter = 0
 nearness option (At pb) = priceNearness option pb
 
--- That of row r.
+-- How near that of row r is.
 abbrev pub nearnessOf : Account → ℕ → ℕ
 nearnessOf a r = nearness (seriesOfRow a r .option) (a .positionAt r .terms .limiter)
 
--- Of a written row, 0 of a held one.
+-- The number x for a written row, 0 for a held one.
 abbrev pub ifWritten : Side → ℕ → ℕ
 ifWritten Held x = 0
 ifWritten Written x = x
@@ -40,9 +42,9 @@ nearest a s zero = 0
 nearest a s (suc n) =
     max (nearest a s n) (cond (eqb (a .positionAt n .series) s) (ifWritten (a .positionAt n .side) (nearnessOf a n)) 0)
 
--- Some written row of the series of row r has a limiter as near as row r's, or row r has none.
-abbrev pub isMet : Account → ℕ → Bool
-isMet a r = leb (nearnessOf a r) (nearest a (a .positionAt r .series) (a .positions))
+-- Some written row of the series of row r has a limiter at least as near as row r's, or row r has none.
+abbrev pub limiterFits : Account → ℕ → Bool
+limiterFits a r = leb (nearnessOf a r) (nearest a (a .positionAt r .series) (a .positions))
 
 -- The nearest of every series among the first n rows.
 abbrev pub Nearest : Account → ℕ → List ℕ → Type 0

@@ -8,7 +8,7 @@ use lib.Dec.{eqb}
 use lib.ListN.{length}
 use Rattle.account.specs.Known.{Known}
 use Rattle.lanes.specs.Keys.{Links, downLane, last, lineColumn, placeOf, tableSize, unitColumn, upLane}
-use Rattle.lanes.specs.Limiters.{Nearest, isMet}
+use Rattle.lanes.specs.Limiters.{Nearest, ifWritten, limiterFits}
 use Rattle.numbers.specs.Lists.{nth}
 use Rattle.rules.specs.File.{Account, accountOf, seriesOfRow}
 use Rattle.rules.specs.Limits.{mostPositions, mostSeries}
@@ -16,21 +16,21 @@ use Rattle.rules.specs.OnePosition.{unitMargin}
 use Rattle.rules.specs.Pairs.{europeanOrBeforeAnnex, isWritten}
 use Rattle.rules.specs.declared.Layout.{Layout}
 use Rattle.rules.specs.declared.Position.{Position}
-use Rattle.rules.specs.declared.Series.{Series}
 use Rattle.rules.specs.declared.Side.{Side}
 use Rattle.rules.specs.declared.Side.the-variants.{Held, Written}
 
--- What a row can be in a pair: its held row, 0, its written row, 1, or neither, 2. A held row is one only where it is met.
+-- What a row can be in a pair: its held row, 0, its written row, 1, or neither, 2. A held row whose limiter does not fit
+-- (`Limiters.limiterFits`) is neither.
 abbrev pub sideRole : Bool → Side → ℕ
-sideRole met Held = cond met 0 2
-sideRole met Written = 1
+sideRole fits Held = cond fits 0 2
+sideRole fits Written = 1
 
 abbrev pub roleOf : Bool → Position → ℕ
-roleOf met p = cond (europeanOrBeforeAnnex p) (sideRole met (p .side)) 2
+roleOf fits p = cond (europeanOrBeforeAnnex p) (sideRole fits (p .side)) 2
 
 -- The mark of a row: its place, and its role where a key has the row.
 abbrev pub markOf : Bool → Position → ℕ
-markOf met p = placeOf p + roleOf met p
+markOf fits p = placeOf p + roleOf fits p
 
 -- What keys have, of a mark x: the place, the same as the lane counts it, and the top.
 abbrev pub markPlace : ℕ → ℕ
@@ -49,12 +49,7 @@ markTop o x =
     (cond (eqb o upLane) (markGroup x + 1_099_511_627_776) (last + 256 - markGroup x))
 
 abbrev pub Marks : Account → List ℕ → Type 0
-Marks a table = (r : ℕ) → r < a .positions → nth table r ≡ markOf (isMet a r) (a .positionAt r)
-
--- The unit margin of a written row, 0 for a held one.
-abbrev pub sideUnit : Side → Series → Position → ℕ
-sideUnit Held s p = 0
-sideUnit Written s p = unitMargin s p
+Marks a table = (r : ℕ) → r < a .positions → nth table r ≡ markOf (limiterFits a r) (a .positionAt r)
 
 -- The unit margins of the written rows.
 abbrev pub Units : Account → List ℕ → Type 0
@@ -108,6 +103,6 @@ pub record MarksAsked (b : List ℕ) (l : Layout) (near table : List ℕ) : Type
 
 -- Marks and unit margins of the rows before m.
 pub record Marked (a : Account) (m : ℕ) (old new : List ℕ) : Type 0 where
-  pub marks : (r : ℕ) → r < m → nth new r ≡ markOf (isMet a r) (a .positionAt r)
-  pub units : (r : ℕ) → r < m → nth new (unitColumn + r) ≡ sideUnit (a .positionAt r .side) (seriesOfRow a r) (a .positionAt r)
+  pub marks : (r : ℕ) → r < m → nth new r ≡ markOf (limiterFits a r) (a .positionAt r)
+  pub units : (r : ℕ) → r < m → nth new (unitColumn + r) ≡ ifWritten (a .positionAt r .side) (unitMargin (seriesOfRow a r) (a .positionAt r))
   pub lines : SameLines old new

@@ -38,17 +38,17 @@ fn family_of(p: Position) -> u64
     barrier_family(barrier)
 }
 
-fn held_role(met: bool) -> u64
-    ensures { λ r. ⌜ r ≡ cond met 0 2 ⌝ }
+fn held_role(fits: bool) -> u64
+    ensures { λ r. ⌜ r ≡ cond fits 0 2 ⌝ }
 {
-    if met { 0 } else { 2 }
+    if fits { 0 } else { 2 }
 }
 
-fn side_role(met: bool, side: Side) -> u64
-    ensures { λ r. ⌜ r ≡ sideRole met side ⌝ }
+fn side_role(fits: bool, side: Side) -> u64
+    ensures { λ r. ⌜ r ≡ sideRole fits side ⌝ }
 {
     match side {
-        Side::Held => held_role(met),
+        Side::Held => held_role(fits),
         Side::Written => 1,
     }
 }
@@ -60,23 +60,24 @@ fn european_or_before_annex(p: Position) -> bool
     flags.european | flags.beforeAnnex
 }
 
-// The held row of a pair, which is met, the written row of a pair, or neither.
-fn role_of(met: bool, p: Position) -> u64
-    ensures { λ r. ⌜ (r ≡ roleOf met p) × (r ≤ 2) ⌝ }
+// 0 for a held row whose limiter fits, 1 for a written row, 2 for neither.
+fn role_of(fits: bool, p: Position) -> u64
+    ensures { λ r. ⌜ (r ≡ roleOf fits p) × (r ≤ 2) ⌝ }
 {
     if european_or_before_annex(p) {
         let side = p.side;
-        return side_role(met, side);
+        return side_role(fits, side);
     }
     2
 }
 
-pub fn mark_of(met: bool, p: Position) -> u64
+// The mark of a row: series, family, strike and role in one number.
+pub fn mark_of(fits: bool, p: Position) -> u64
     requires { ⌜ InRange p ⌝ }
-    ensures { λ x. ⌜ x ≡ markOf met p ⌝ }
+    ensures { λ x. ⌜ x ≡ markOf fits p ⌝ }
 {
     let group = ((p.series as u64) * 4 + family_of(p)) * 1_099_511_627_776;
-    group + (p.terms.pe as u64) * 256 + role_of(met, p)
+    group + (p.terms.pe as u64) * 256 + role_of(fits, p)
 }
 
 pub fn mark_place(x: u64) -> u64

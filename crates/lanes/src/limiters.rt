@@ -17,7 +17,7 @@ ghost use Rattle.lanes.specs.Limiters.{Nearest, ifWritten, nearness, pri
 ghost use Rattle.rules.specs.File.{accountOf};
 ghost use Rattle.rules.specs.Limits.{mostSeries};
 
-// The nearer a limiter at this price is, the more.
+// How near a limiter at this price is: greater where it is nearer.
 fn price_nearness(option: OptionType, pb: u32) -> u64
     ensures { λ r. ⌜ r ≡ priceNearness option pb ⌝ }
 {
@@ -34,7 +34,7 @@ fn series_nearness(s: Series, pb: u32) -> u64
     price_nearness(option, pb)
 }
 
-// The same of a row, 0 without a limiter.
+// How near a row's limiter is; 0 without one.
 pub fn nearness_of(file: &[u8], l: Layout, p: Position) -> u64
     requires { ⌜ Known (now file) l × (p .series < l .series) ⌝ }
     ensures { λ r. ⌜ r ≡ nearness (accountOf (now (file .entry)) l .seriesAt (p .series) .option) (p .terms .limiter) ⌝ }
@@ -47,7 +47,7 @@ pub fn nearness_of(file: &[u8], l: Layout, p: Position) -> u64
     }
 }
 
-// The same of a written row, 0 of a held one.
+// The same for a written row, 0 for a held one.
 fn written_nearness(file: &[u8], l: Layout, p: Position) -> u64
     requires { ⌜ Known (now file) l × (p .series < l .series) ⌝ }
     ensures { λ r. ⌜ r ≡ ifWritten (p .side) (nearness (accountOf (now (file .entry)) l .seriesAt (p .series) .option) (p .terms .limiter)) ⌝ }
@@ -59,7 +59,7 @@ fn written_nearness(file: &[u8], l: Layout, p: Position) -> u64
     }
 }
 
-// The nearest of each series, in a list of zeros.
+// The nearest limiter of each series' written rows; the list holds zeros before the call.
 pub fn fill_nearest(file: &[u8], l: Layout, near: &mut [u64])
     requires { ⌜ Known (now file) l × (mostSeries ≤ length (now near)) × Nearest (accountOf (now file) l) 0 (now near) ⌝ }
     ensures { λ _. ⌜ Nearest (accountOf (now (file .entry)) l) (l .positions) (now (near .exit)) ⌝ }

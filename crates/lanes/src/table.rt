@@ -16,13 +16,15 @@ use rules::Side;
 ghost use Prim.Native.Nat.{_<_};
 ghost use mathlib.Core.Path.{_≡_};
 ghost use Rattle.account.specs.Known.{Known};
-ghost use Rattle.lanes.specs.Marks.{Marked, MarksAsked, TableAsked, TableFilled, sideUnit};
+ghost use Rattle.lanes.specs.Limiters.{ifWritten};
+ghost use Rattle.lanes.specs.Marks.{Marked, MarksAsked, TableAsked, TableFilled};
 ghost use Rattle.rules.specs.File.{accountOf};
+ghost use Rattle.rules.specs.OnePosition.{unitMargin};
 
 // The unit margin of a written row, 0 for a held one.
 fn unit_of_row(file: &[u8], l: Layout, p: Position) -> u64
     requires { ⌜ Known (now file) l × (p .series < l .series) ⌝ }
-    ensures { λ u. ⌜ u ≡ sideUnit (p .side) (accountOf (now (file .entry)) l .seriesAt (p .series)) p ⌝ }
+    ensures { λ u. ⌜ u ≡ ifWritten (p .side) (unitMargin (accountOf (now (file .entry)) l .seriesAt (p .series)) p) ⌝ }
 {
     let side = p.side;
     match side {
@@ -31,7 +33,7 @@ fn unit_of_row(file: &[u8], l: Layout, p: Position) -> u64
     }
 }
 
-// Marks and unit margins of all rows, from the nearest limiters of the series.
+// Marks and unit margins of all rows. A held row's limiter fits where it is no nearer than the nearest of its series.
 fn fill_marks(file: &[u8], l: Layout, near: &[u64], table: &mut [u64])
     requires { ⌜ MarksAsked (now file) l (now near) (now table) ⌝ }
     ensures { λ _. ⌜ Marked (accountOf (now (file .entry)) l) (l .positions) (now (table .entry)) (now (table .exit)) ⌝ }

@@ -10,7 +10,7 @@ use borrow.Author.Tests.{eq-eqb}
 use Rattle.lanes.proofs.FileFacts.{Ranged}
 use Rattle.lanes.proofs.KeyLaws.{key-below, key-is, key-row, key-some, link-from-is, one-group, top-most}
 use Rattle.lanes.specs.Keys.{LeastKey, Links, family, from, inLanes, key, linkFrom, none, pairsAsHeld, pairsAsWritten, start, top}
-use Rattle.lanes.specs.Limiters.{isMet}
+use Rattle.lanes.specs.Limiters.{limiterFits}
 use Rattle.numbers.proofs.Order.{split}
 use Rattle.numbers.specs.Lists.{nth}
 use Rattle.pairing.specs.Cursors.{Cursor, Kept, Meets, Open, Places, Ranked, distance}
@@ -39,7 +39,7 @@ module _ (a : Account) (ok : Ranged a) (left : List ℕ) (w : ℕ) (lw : w < a .
   cursor-meets o u c t written =
       let h = u % 256 in
       let x = both (isWritten (a .positionAt w .side)) (europeanOrBeforeAnnex (a .positionAt w)) written in
-      let z = both (pairsAsHeld (a .positionAt h)) (isMet a h) (cursor-lane o u c t) in
+      let z = both (pairsAsHeld (a .positionAt h)) (limiterFits a h) (cursor-lane o u c t) in
       let y = both (isHeld (a .positionAt h .side)) (europeanOrBeforeAnnex (a .positionAt h)) (z .0) in
       let series = cursor-group o u c t .0 in
       rw (x .0, x .1, y .0, y .1, eq-eqb (a .positionAt w .series) (a .positionAt h .series) series) refl

@@ -1,17 +1,17 @@
 -- The rank of a row from its two cursors.
 -- Assumes nothing.
-use Prim.Native.Nat.{ℕ, _+_, _*_, _-_, _/_, _%_, _≤_, _<_, min}
+use Prim.Native.Nat.{ℕ, _+_, _*_, _-_, _/_, _%_, _≤_, _<_}
 use mathlib.Core.Bool.{Bool, true, false, cond}
 use mathlib.Core.List.{List}
 use mathlib.Core.Logic.{_⊎_, inl, inr}
-use mathlib.Core.Path.{_≡_, refl, sym, _∙_}
+use mathlib.Core.Path.{_≡_, refl, _∙_}
 use native.Mathlib.Omega.{arith}
 use lib.Dec.{ltb}
 use borrow.Author.Tests.{le-ltb, lt-ltb, ltb-false, ltb-true}
 use Rattle.numbers.proofs.Order.{split}
 use Rattle.lanes.proofs.FileFacts.{Ranged, row-range}
 use Rattle.lanes.proofs.KeyLaws.{key-below, key-is, may-meet, place-most, top-most, top-near}
-use Rattle.lanes.specs.Keys.{from, key, none, placeOf, start, top}
+use Rattle.lanes.specs.Keys.{from, key, none, start, top}
 use Rattle.pairing.proofs.CursorLaws.{cursor-group, cursor-key}
 use Rattle.pairing.specs.Cursors.{Cursor, Open, distance}
 use Rattle.rules.proofs.MayPair.{gap-down, gap-up}

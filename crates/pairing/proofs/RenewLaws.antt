@@ -1,6 +1,6 @@
 -- A row renewed: its rank rises, alone and in a pass over all rows.
 -- Assumes nothing.
-use Prim.Native.Nat.{ℕ, _+_, _-_, _/_, _%_, _≤_, _<_, min}
+use Prim.Native.Nat.{ℕ, _+_, _/_, _%_, _≤_, _<_, min}
 use mathlib.Core.Bool.{Bool}
 use mathlib.Core.List.{List}
 use mathlib.Core.Logic.{_⊎_, inl, inr}
@@ -16,7 +16,6 @@ use Rattle.lanes.specs.Keys.{none}
 use Rattle.numbers.proofs.Order.{same, split}
 use Rattle.numbers.specs.Lists.{nth}
 use Rattle.tree.specs.Tree.{LeafPut, SameLeaves, Tree}
-use Rattle.rules.proofs.PairOrder.{rank}
 use Rattle.rules.specs.File.{Account}
 use Rattle.pairing.proofs.StandingLaws.{standings-filled}
 use Rattle.pairing.proofs.LeastLaws.{own-row}

@@ -3,7 +3,7 @@
 use Prim.Native.Nat.{ℕ, _+_, _%_, _≤_, _<_}
 use mathlib.Core.Bool.{Bool, true, false, cond, _&&_, true≢false}
 use mathlib.Core.List.{List}
-use mathlib.Core.Path.{_≡_, refl, sym, ap, _∙_}
+use mathlib.Core.Path.{_≡_, refl, sym, _∙_}
 use native.Mathlib.Omega.{arith}
 use lib.Dec.{ltb}
 use lib.ListN.{length, set, length-set}
@@ -11,19 +11,19 @@ use lib.Seq.{getD-set-other, getD-set-same}
 use borrow.Author.Tests.{ltb-true}
 use Rattle.lanes.proofs.FileFacts.{ranged, row-range}
 use Rattle.lanes.proofs.MarkLaws.{mark-role}
-use Rattle.lanes.specs.Keys.{Links, pairsAsHeld, pairsAsWritten}
-use Rattle.lanes.specs.Limiters.{isMet}
+use Rattle.lanes.specs.Keys.{pairsAsHeld, pairsAsWritten}
+use Rattle.lanes.specs.Limiters.{limiterFits}
 use Rattle.lanes.specs.Marks.{roleOf, sideRole}
 use Rattle.numbers.specs.Lists.{nth}
 use Rattle.pairing.proofs.CursorLaws.{cursor-starts}
 use Rattle.pairing.proofs.SearchLaws.{nothing-kept}
-use Rattle.pairing.specs.Cursors.{Cursor, Kept, Places, Row, idle}
+use Rattle.pairing.specs.Cursors.{Kept, Places, Row, idle}
 use Rattle.pairing.specs.Standings.{PlacesPut}
 use Rattle.pairing.specs.declared.Standing.{Standing}
 use Rattle.rules.proofs.MayPair.{may-pairable}
 use Rattle.rules.proofs.Tests.{both}
 use Rattle.rules.specs.File.{accountOf}
-use Rattle.rules.specs.Pairs.{europeanOrBeforeAnnex, isHeld, isWritten}
+use Rattle.rules.specs.Pairs.{europeanOrBeforeAnnex, isWritten}
 use Rattle.rules.specs.declared.Layout.{Layout}
 use Rattle.rules.specs.declared.Position.{Position}
 use Rattle.rules.specs.declared.Side.{Side}
@@ -34,8 +34,8 @@ pub record WrittenRow (p : Position) : Type 0 where
   pub written : pairsAsWritten p ≡ true
   pub outside : pairsAsHeld p ≡ false
 
-pub role-written : (met : Bool) (p : Position) → roleOf met p ≡ 1 → WrittenRow p
-role-written met p = go met (p .side) (europeanOrBeforeAnnex p) refl refl
+pub role-written : (fits : Bool) (p : Position) → roleOf fits p ≡ 1 → WrittenRow p
+role-written fits p = go fits (p .side) (europeanOrBeforeAnnex p) refl refl
   where
     go : (m : Bool) (s : Side) (t : Bool) → p .side ≡ s → europeanOrBeforeAnnex p ≡ t → cond t (sideRole m s) 2 ≡ 1 → WrittenRow p
     go true Held true es et e = absurd (omega arith)
@@ -44,24 +44,24 @@ role-written met p = go met (p .side) (europeanOrBeforeAnnex p) refl refl
     go m Written true es et e = record { written = rw (es, et) refl; outside = rw es refl }
     go m Written false es et e = absurd (omega arith)
 
-pub role-other : (met : Bool) (p : Position) → (roleOf met p ≡ 1 → ⊥) → pairsAsWritten p ≡ true → ⊥
-role-other met p = go (p .side) (europeanOrBeforeAnnex p)
+pub role-other : (fits : Bool) (p : Position) → (roleOf fits p ≡ 1 → ⊥) → pairsAsWritten p ≡ true → ⊥
+role-other fits p = go (p .side) (europeanOrBeforeAnnex p)
   where
-    go : (s : Side) (t : Bool) → (cond t (sideRole met s) 2 ≡ 1 → ⊥) → (isWritten s && t) ≡ true → ⊥
+    go : (s : Side) (t : Bool) → (cond t (sideRole fits s) 2 ≡ 1 → ⊥) → (isWritten s && t) ≡ true → ⊥
     go Held t n e = true≢false (sym e)
     go Written true n e = n refl
     go Written false n e = true≢false (sym e)
 
 module _ (b : List ℕ) (l : Layout) (left table : List ℕ) (w : ℕ) (row : Row b l left table w) where
-  role-is : nth table w % 256 ≡ roleOf (isMet (accountOf b l) w) (accountOf b l .positionAt w)
+  role-is : nth table w % 256 ≡ roleOf (limiterFits (accountOf b l) w) (accountOf b l .positionAt w)
   role-is =
       rw (row .rests .filled .marks w (row .row))
-      (mark-role (isMet (accountOf b l) w) (accountOf b l .positionAt w) (row-range (accountOf b l) (ranged b l (row .rests .file)) w (row .row)))
+      (mark-role (limiterFits (accountOf b l) w) (accountOf b l .positionAt w) (row-range (accountOf b l) (ranged b l (row .rests .file)) w (row .row)))
 
   -- Its first places: a written row is in no lane itself.
   pub first-places : nth table w % 256 ≡ 1 → Places (accountOf b l) left w (nth table (256 + w)) (nth table (512 + w))
   first-places e =
-      let r = role-written (isMet (accountOf b l) w) (accountOf b l .positionAt w) (sym role-is ∙ e) in
+      let r = role-written (limiterFits (accountOf b l) w) (accountOf b l .positionAt w) (sym role-is ∙ e) in
       let ok = ranged b l (row .rests .file) in
       record {
         up = cursor-starts (accountOf b l) ok left w (row .row) 256 table (r .outside) (r .written) (row .rests .filled .up);
@@ -74,7 +74,7 @@ module _ (b : List ℕ) (l : Layout) (left table : List ℕ) (w : ℕ) (row : Ro
       nothing-kept (accountOf b l) left w
       (λ h lh o.
       let p = may-pairable (accountOf b l) w h (o .may-pair) in
-      role-other (isMet (accountOf b l) w) (accountOf b l .positionAt w) (λ q. e (role-is ∙ q)) (rw (p .is-written, p .written-terms)))
+      role-other (limiterFits (accountOf b l) w) (accountOf b l .positionAt w) (λ q. e (role-is ∙ q)) (rw (p .is-written, p .written-terms)))
 
 pub both-some : (x y : ℕ) → (ltb 0 x && ltb 0 y) ≡ true → (1 ≤ x) × (1 ≤ y)
 both-some x y e = let t = both (ltb 0 x) (ltb 0 y) e in (ltb-true 0 x (t .0), ltb-true 0 y (t .1))

@@ -5,7 +5,7 @@ use mathlib.Core.List.{List, [], _∷_, _++_}
 use mathlib.Core.Path.{_≡_}
 use lib.IntN.{negℤ, pos}
 use Rattle.rules.proofs.CheckOrder.{bytes4, noRows, trailerBytes}
-use Rattle.rules.proofs.CheckedValues.{row, series}
+use Rattle.rules.proofs.CheckedValues.{series}
 use Rattle.rules.specs.File.{barrierOf, flagsOf, limiterOf, optionOf, positionRowFrom, positionWidth, seriesRowFrom, seriesWidth, sideOf, span, trailerWidth, u16At, u24At, u32At, u8At}
 use Rattle.rules.specs.Limits.{mostBytes, mostPositions, mostSeries}
 use Rattle.rules.specs.Lines.{marginAnswer, premiumAnswer}

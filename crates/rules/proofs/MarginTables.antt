@@ -8,7 +8,6 @@ use Rattle.rules.proofs.CheckedValues.{row, series, unitOf}
 use Rattle.rules.specs.OnePosition.{unitMargin}
 use Rattle.rules.specs.Paths.{IsPath, last, payment}
 use Rattle.rules.specs.Quantities.{fine}
-use Rattle.rules.specs.Refusals.{rows}
 use Rattle.rules.specs.declared.Barrier.{Barrier}
 use Rattle.rules.specs.declared.Barrier.the-variants.{NoBarrier, UpIn, DownIn, UpOut, DownOut}
 use Rattle.rules.specs.declared.Limiter.{Limiter}
@@ -20,12 +19,12 @@ use Rattle.rules.specs.declared.Side.{Side}
 use Rattle.rules.specs.declared.Side.the-variants.{Written}
 
 -- A row with flag 1: a barrier that has been touched, and a rebate.
-abbrev pub knockedInRow : Side → ℕ → Barrier → ℕ → Position
-knockedInRow side pe barrier reb =
+abbrev pub knockedInRow : Side → ℕ → Limiter → Barrier → ℕ → Position
+knockedInRow side pe limiter barrier reb =
     record {
       series = 0;
       side = side;
-      terms = record { pe = pe; limiter = NoLimiter; barrier = barrier; reb = reb };
+      terms = record { pe = pe; limiter = limiter; barrier = barrier; reb = reb };
       flags = record { knockedIn = true; limited = false; european = true; beforeAnnex = false };
       q = 10;
       premium = 0;
@@ -43,8 +42,9 @@ UnitMargins =
     × (unitOf Put 2900 (At 0) NoBarrier 0 ≡ fine 500)
     × (unitOf Put 2500 NoLimiter NoBarrier 0 ≡ fine 150)
     -- "Flag 1 makes the position one without barrier and with REB 0."
-    × (unitMargin (series Call) (knockedInRow Written 3100 (UpIn 3700) 600) ≡ fine 500)
-    × (unitMargin (series Put) (knockedInRow Written 2900 (DownIn 2300) 600) ≡ fine 500)
+    × (unitMargin (series Call) (knockedInRow Written 3100 NoLimiter (UpIn 3700) 600) ≡ fine 500)
+    × (unitMargin (series Put) (knockedInRow Written 2900 NoLimiter (DownIn 2300) 600) ≡ fine 500)
+    × (unitMargin (series Call) (knockedInRow Written 3100 (At 3300) (UpIn 3700) 600) ≡ fine 200)
 
 abbrev pub InBarrierMargins : Type 0
 InBarrierMargins =
@@ -111,4 +111,4 @@ Payments =
     × (pays Put 3500 NoLimiter (DownOut 3000) 40 ≡ fine 40)
     × (pays Put 3500 NoLimiter (DownOut 2999) 40 ≡ fine 200)
     -- Flag 1: knocked in already
-    × (payment (series Call) (knockedInRow Written 3100 (UpIn 3700) 40) rising ≡ fine 200)
+    × (payment (series Call) (knockedInRow Written 3100 NoLimiter (UpIn 3700) 40) rising ≡ fine 200)

@@ -3,12 +3,14 @@
 use Prim.Native.Nat.{ℕ, _+_, _-_, _≤_}
 use mathlib.Core.Bool.{Bool, true, false, cond, true≢false, false≢true}
 use mathlib.Core.List.{List, [], _∷_}
+use mathlib.Core.Logic.{⊎-elim}
 use mathlib.Core.Path.{_≡_, refl, ap}
 use borrow.Author.Tests.{eqb-true, le-leb, leb-true, ltb-false}
 use lib.Dec.{eqb, leb}
 use native.Mathlib.Nat.{le-of-lt}
 use native.Mathlib.Omega.{arith}
 use Rattle.rules.proofs.SameRows.{of-kind, same-paid}
+use Rattle.rules.proofs.SpreadForms.{spread-made}
 use Rattle.rules.proofs.Tests.{cond-case}
 use Rattle.rules.proofs.Touch.{In, down-further, down-missed, down-reached, every-last, inside, up-further, up-missed, up-reached}
 use Rattle.rules.specs.File.{barrierOf}
@@ -39,7 +41,7 @@ cond-covered :
 cond-covered t m n x y f g = cond-case (λ c. Covered c x y) t m n f g
 
 -- Limiters h and w that do not bar a pair: at the price z the written row's payoff is cut at least as much as the held
--- row's.
+-- row's, and the written row pays no more than it would without a limiter.
 abbrev Cut : OptionType → Limiter → Limiter → ℕ → Type 0
 Cut Call h w z = (capped w z ≤ capped h z) × (capped w z ≤ z)
 Cut Put h w z = (floored h z ≤ floored w z) × (z ≤ floored w z)
@@ -159,16 +161,15 @@ module _ (s : Series) (h w : Terms) (a : ℕ) (l : List ℕ) (within : Every (In
     one-kind (DownOut odw) odh =
         cond-covered (leb odh odw) _ _ _ _ (λ e. down-out odh odw (leb-true odh odw e)) (λ _. tt)
 
-  -- The rules in their order, of normalised rows.
+  -- Two normalised rows with a spread: identical ones, or by the rule of their one kind of barrier.
   spread-covered :
-      Covered (spreadBetween s h w) (paymentByBarrier (s .option) (w .barrier) w (a ∷ l)) (paymentByBarrier (s .option) (h .barrier) h (a ∷ l))
-  spread-covered =
-      cond-covered (same h w) _ _ _ _ (λ (e : same h w ≡ true). omega (arith, same-paid (s .option) h w (a ∷ l) e))
-      (λ _. cond-covered (limiterBars (s .option) (h .limiter) (w .limiter)) _ _ _ _ (λ _. tt)
-      (λ free. cond-covered (eqb (kindOf (h .barrier)) (kindOf (w .barrier))) _ _ _ _
-      (λ e. rw (of-kind (h .barrier) (w .barrier) e) at
-      (one-kind (unbarred (s .option) (h .limiter) (w .limiter) (lastOr a l) free) (w .barrier) (priceOf (h .barrier))))
-      (λ _. tt)))
+      (u : ℕ) → spreadBetween s h w ≡ Margin u
+      → paymentByBarrier (s .option) (w .barrier) w (a ∷ l) ≤ u + paymentByBarrier (s .option) (h .barrier) h (a ∷ l)
+  spread-covered u e =
+      ⊎-elim (λ (z : same h w ≡ true). omega (arith, same-paid (s .option) h w (a ∷ l) z))
+      (λ t. rw (t .2) at (rw (of-kind (h .barrier) (w .barrier) (t .1)) at
+      (one-kind (unbarred (s .option) (h .limiter) (w .limiter) (lastOr a l) (t .0)) (w .barrier) (priceOf (h .barrier)))))
+      (spread-made s h w u e)
 
 -- The cover of one pair, of any two rows of any series.
 pub pair-covers :
@@ -176,5 +177,4 @@ pub pair-covers :
     → (path : List ℕ) → IsPath s path → payment s w path ≤ u + payment s h path
 unfolding payment unitSpread
 pair-covers s h w u e [] path = absurd path
-pair-covers s h w u e (a ∷ l) path =
-    rw e at (spread-covered s (normal h) (normal w) a l (inside s (a ∷ l) path))
+pair-covers s h w u e (a ∷ l) path = spread-covered s (normal h) (normal w) a l (inside s (a ∷ l) path) u e

@@ -1,4 +1,4 @@
--- What the limits of a position row say of its barrier once flag 1 is applied.
+-- What flag 1 leaves of a row, and what the limits of a position row say of its barrier once it is applied.
 -- Assumes nothing.
 use Prim.Native.Nat.{ℕ, _%_, _≤_, _<_}
 use mathlib.Core.Bool.{Bool, true, false, cond}
@@ -14,8 +14,17 @@ use Rattle.rules.specs.OnePosition.{afterFlag1, normal}
 use Rattle.rules.specs.Spreads.{kindOf}
 use Rattle.rules.specs.declared.Barrier.{Barrier}
 use Rattle.rules.specs.declared.Barrier.the-variants.{NoBarrier, UpIn, DownIn, UpOut, DownOut}
+use Rattle.rules.specs.declared.Position.{Position}
 use Rattle.rules.specs.declared.PositionRow.{PositionRow}
 use Rattle.rules.specs.declared.SeriesRow.{SeriesRow}
+
+-- Strike and limiter stay.
+pub flag-1-leaves : (p : Position) → (normal p .pe ≡ p .terms .pe) × (normal p .limiter ≡ p .terms .limiter)
+flag-1-leaves p = go (p .flags .knockedIn)
+  where
+    go : (t : Bool) → (afterFlag1 t (p .terms) .pe ≡ p .terms .pe) × (afterFlag1 t (p .terms) .limiter ≡ p .terms .limiter)
+    go true = (refl, refl)
+    go false = (refl, refl)
 
 -- The barrier stands on its side of PV: an up barrier above it, a down barrier below it.
 abbrev pub Beside : ℕ → Barrier → Type 0

@@ -1,8 +1,9 @@
--- The spread rule in the order that costs least: identical rows are asked for only where no other rows pair, since
--- elsewhere the rules give them 0 by themselves.
+-- What two rows with a spread are like, and the spread rule in the order that costs least: identical rows are asked for only
+-- where no other rows pair, since elsewhere the rules give them 0 by themselves.
 -- Assumes nothing.
 use Prim.Native.Nat.{ℕ, _-_}
 use mathlib.Core.Bool.{Bool, true, false, cond, false≢true, true≢false}
+use mathlib.Core.Logic.{_⊎_, inl, inr, ⊎-elim}
 use mathlib.Core.Path.{_≡_, refl, sym, ap, _∙_}
 use native.Mathlib.Nat.{le-refl}
 use native.Mathlib.Omega.{arith}
@@ -32,7 +33,7 @@ knockIn (UpOut price) = false
 knockIn (DownOut price) = false
 
 -- A row beside itself: its limiter does not bar, its strike covers, it loses nothing.
-pub self-unbarred : (k : OptionType) (l : Limiter) → limiterBars k l l ≡ false
+self-unbarred : (k : OptionType) (l : Limiter) → limiterBars k l l ≡ false
 self-unbarred k NoLimiter = refl
 self-unbarred Call (At pb) = le-ltb pb pb (le-refl pb)
 self-unbarred Put (At pb) = le-ltb pb pb (le-refl pb)
@@ -63,14 +64,44 @@ self-spread (DownOut price) s t n =
     rw (le-leb price price (le-refl price), eq-eqb price price refl, self-covers (s .option) t)
     (ap Margin (self-out (downReached s price) s (rebate t - rebate t) (D (s .option) (cond (downReached s price) (fine price) (low s)) (high s) t t) (nothing-left (rebate t))))
 
-module _ (s : Series) (h w : Terms) (r : Spread) where
-  -- A limiter bars the pair: identical rows have none that does.
+-- The limiters of identical rows bar no pair.
+same-unbarred : (k : OptionType) (h w : Terms) → same h w ≡ true → limiterBars k (h .limiter) (w .limiter) ≡ false
+same-unbarred k h w e = ap (λ (t : Terms). limiterBars k (t .limiter) (w .limiter)) (same-terms h w e) ∙ self-unbarred k (w .limiter)
+
+-- A barred pair has no spread.
+pub barred : (u : ℕ) {A : Type 0} → Barred ≡ Margin u → A
+barred u e = let z : _≡_ {A = ℕ} 0 1 = cc in absurd (omega arith)
+
+-- Two rows with a spread: identical ones, or rows with barriers of one kind whose rule gives it. No limiter bars them.
+module _ (s : Series) (h w : Terms) (u : ℕ) (e : spreadBetween s h w ≡ Margin u) where
+  pub spread-made :
+      (same h w ≡ true)
+      ⊎ ((limiterBars (s .option) (h .limiter) (w .limiter) ≡ false)
+      × (eqb (kindOf (h .barrier)) (kindOf (w .barrier)) ≡ true)
+      × (oneKindSpread (w .barrier) (priceOf (h .barrier)) s h w ≡ Margin u))
+  spread-made =
+      go (same h w) (limiterBars (s .option) (h .limiter) (w .limiter)) (eqb (kindOf (h .barrier)) (kindOf (w .barrier))) e
+    where
+      go : (x y z : Bool)
+          → cond x (Margin 0) (cond y Barred (cond z (oneKindSpread (w .barrier) (priceOf (h .barrier)) s h w) Barred)) ≡ Margin u
+          → (x ≡ true) ⊎ ((y ≡ false) × (z ≡ true) × (oneKindSpread (w .barrier) (priceOf (h .barrier)) s h w ≡ Margin u))
+      go true y z q = inl refl
+      go false true z q = barred u q
+      go false false true q = inr (refl, refl, q)
+      go false false false q = barred u q
+
+  pub made-unbarred : limiterBars (s .option) (h .limiter) (w .limiter) ≡ false
+  made-unbarred = ⊎-elim (same-unbarred (s .option) h w) (λ t. t .0) spread-made
+
+-- The rule, test by test.
+module _ (s : Series) (h w : Terms) where
+  -- The limiters bar the pair: then the rows are not identical.
   pub limiter-barred : limiterBars (s .option) (h .limiter) (w .limiter) ≡ true → Barred ≡ spreadBetween s h w
   limiter-barred e = rw e (go (same h w) refl)
     where
       go : (t : Bool) → same h w ≡ t → Barred ≡ cond t (Margin 0) Barred
       go false z = refl
-      go true z = absurd (true≢false (sym e ∙ ap (λ (x : Terms). limiterBars (s .option) (x .limiter) (w .limiter)) (same-terms h w z) ∙ self-unbarred (s .option) (w .limiter)))
+      go true z = absurd (true≢false (sym e ∙ same-unbarred (s .option) h w z))
 
   -- Barriers of two kinds.
   pub two-kinds : limiterBars (s .option) (h .limiter) (w .limiter) ≡ false → eqb (kindOf (h .barrier)) (kindOf (w .barrier)) ≡ false → Barred ≡ spreadBetween s h w
@@ -82,6 +113,7 @@ module _ (s : Series) (h w : Terms) (r : Spread) where
       go true false z q =
           absurd (true≢false (sym (eq-eqb (kindOf (h .barrier)) (kindOf (w .barrier)) (ap (λ (x : Terms). kindOf (x .barrier)) (same-terms h w z))) ∙ k))
 
+module _ (s : Series) (h w : Terms) (r : Spread) where
   -- Two knock-ins: identical rows or none.
   pub knock-in-spread : limiterBars (s .option) (h .limiter) (w .limiter) ≡ false → knockIn (w .barrier) ≡ true → r ≡ cond (same h w) (Margin 0) Barred → r ≡ spreadBetween s h w
   knock-in-spread e n q = q ∙ rw e (ap (cond (same h w) (Margin 0)) (go (w .barrier) (eqb (kindOf (h .barrier)) (kindOf (w .barrier))) n))

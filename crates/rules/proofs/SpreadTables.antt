@@ -7,7 +7,6 @@ use Rattle.rules.proofs.CheckedValues.{row, series}
 use Rattle.rules.specs.Lines.{spreadUnit}
 use Rattle.rules.specs.Pairs.{mayPair, strikeDifference}
 use Rattle.rules.specs.Quantities.{fine}
-use Rattle.rules.specs.Refusals.{rows}
 use Rattle.rules.specs.Spreads.{unitSpread}
 use Rattle.rules.specs.declared.Barrier.{Barrier}
 use Rattle.rules.specs.declared.Barrier.the-variants.{NoBarrier, UpIn, DownIn, UpOut, DownOut}
@@ -33,12 +32,12 @@ SameRowSpreads =
     -- "Same PE, limiter, barrier and REB after flag 1 is applied: 0"
     (unitSpread (series Call) (row Held 3100 (At 3300) (UpIn 3700) 40) (row Written 3100 (At 3300) (UpIn 3700) 40) ≡ Margin 0)
     × (unitSpread (series Put) (row Held 2900 (At 0) (DownIn 2300) 40) (row Written 2900 (At 0) (DownIn 2300) 40) ≡ Margin 0)
-    × (unitSpread (series Call) (knockedInRow Held 3100 (UpIn 3700) 40) (knockedInRow Written 3100 (DownIn 2300) 25) ≡ Margin 0)
+    × (unitSpread (series Call) (knockedInRow Held 3100 NoLimiter (UpIn 3700) 40) (knockedInRow Written 3100 NoLimiter (DownIn 2300) 25) ≡ Margin 0)
     × (spread Call 3100 (UpIn 3700) 40 3100 (UpIn 3700) 40 ≡ Margin 0)
     × (spread Put 2900 (DownIn 2300) 0 2900 (DownIn 2300) 0 ≡ Margin 0)
 
--- The same where the held call has strike 3250 and the written one 3100, the held put 2700 and the written one 2900, and both
--- have the same barrier and no rebate: the held and the written limiter.
+-- The unit spread margin where the held call has strike 3250 and the written one 3100, the held put 2700 and the written one
+-- 2900, and both have the same barrier and no rebate: the held and the written limiter.
 abbrev pub limited : OptionType → Barrier → Limiter → Limiter → Spread
 limited Call bar pbh pbw = unitSpread (series Call) (row Held 3250 pbh bar 0) (row Written 3100 pbw bar 0)
 limited Put bar pbh pbw = unitSpread (series Put) (row Held 2700 pbh bar 0) (row Written 2900 pbw bar 0)
@@ -64,7 +63,15 @@ LimitedSpreads =
     × (limited Call NoBarrier (At 3300) NoLimiter ≡ Barred)
     × (limited Put NoBarrier (At 0) NoLimiter ≡ Barred)
     × (unitSpread (series Call) (row Held 3100 (At 3300) NoBarrier 0) (row Written 3100 NoLimiter NoBarrier 0) ≡ Barred)
-    -- "The spread formulas are those in force": knock-outs; knock-ins pair with identical rows alone
+    × (unitSpread (series Call) (knockedInRow Held 3250 (At 3300) (UpIn 3700) 40) (row Written 3100 NoLimiter NoBarrier 0) ≡ Barred)
+    -- "The spread formulas are those in force": strikes that cover, a written limiter between the strikes
+    × (unitSpread (series Call) (row Held 3100 NoLimiter NoBarrier 0) (row Written 3100 (At 3300) NoBarrier 0) ≡ Margin 0)
+    × (unitSpread (series Call) (row Held 3000 (At 3300) NoBarrier 0) (row Written 3100 (At 3300) NoBarrier 0) ≡ Margin 0)
+    × (unitSpread (series Put) (row Held 3000 (At 0) NoBarrier 0) (row Written 2900 (At 0) NoBarrier 0) ≡ Margin 0)
+    × (limited Call NoBarrier NoLimiter (At 3200) ≡ Margin (fine 150))
+    × (limited Put NoBarrier NoLimiter (At 2800) ≡ Margin (fine 200))
+    × (unitSpread (series Call) (row Held 3300 NoLimiter (DownOut 2400) 0) (row Written 3100 (At 3200) (DownOut 2400) 0) ≡ Margin (fine 200))
+    -- Knock-outs; knock-ins pair with identical rows alone
     × (limited Call (DownOut 2400) (At 3400) (At 3300) ≡ Margin (fine 150))
     × (limited Put (UpOut 3600) NoLimiter (At 2600) ≡ Margin (fine 200))
     × (limited Call (UpOut 3600) (At 3299) (At 3300) ≡ Barred)
@@ -79,7 +86,7 @@ PlainSpreads =
     (spread Call 3000 NoBarrier 0 3100 NoBarrier 0 ≡ Margin 0)
     × (spread Put 2700 NoBarrier 0 2900 NoBarrier 0 ≡ Margin (fine 200))
     × (spread Put 3000 NoBarrier 0 2900 NoBarrier 0 ≡ Margin 0)
-    × (unitSpread (series Call) (knockedInRow Held 3250 (UpIn 3700) 40) (row Written 3100 NoLimiter NoBarrier 0) ≡ Margin (fine 150))
+    × (unitSpread (series Call) (knockedInRow Held 3250 NoLimiter (UpIn 3700) 40) (row Written 3100 NoLimiter NoBarrier 0) ≡ Margin (fine 150))
     -- "Nothing else pairs": in barriers of another price or rebate, barriers of two kinds, one barrier alone
     × (spread Call 3100 (UpIn 3701) 0 3100 (UpIn 3700) 0 ≡ Barred)
     × (spread Call 3100 (DownIn 2300) 40 3100 (DownIn 2300) 60 ≡ Barred)

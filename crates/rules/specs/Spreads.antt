@@ -122,7 +122,7 @@ oneKindSpread (UpOut ouw) ouh s h w = cond (leb ouw ouh) (Margin (upOutSpread s 
 -- "Both down-and-out with ODh ≤ ODw"
 oneKindSpread (DownOut odw) odh s h w = cond (leb odh odw) (Margin (downOutSpread s odh odw h w)) Barred
 
--- The rules in document 01's order, of normalised positions; of the second one document 02 [3] has the words. "Nothing else pairs."
+-- The rules in document 01's order, of normalised positions; the second one is document 02 [3]'s. "Nothing else pairs."
 abbrev pub spreadBetween : Series → Terms → Terms → Spread
 spreadBetween s h w =
     cond (same h w) (Margin 0)

@@ -1,9 +1,9 @@
 // The unit spread margin, rule by rule.
+use crate::limiters::limiter_bars;
 use crate::out::down_out_spread;
 use crate::out::up_out_spread;
 use crate::terms::is_knock_in;
 use crate::terms::kind_of;
-use crate::terms::limiter_bars;
 use crate::terms::price_of;
 use crate::terms::same_terms;
 use numbers::fine_units;

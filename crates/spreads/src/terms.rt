@@ -6,7 +6,7 @@ use rules::Terms;
 ghost use mathlib.Core.Path.{_≡_};
 ghost use Rattle.rules.proofs.SpreadForms.{knockIn};
 ghost use Rattle.rules.specs.declared.Barrier.the-variants.{NoBarrier};
-ghost use Rattle.rules.specs.Spreads.{heldNearer, kindOf, limiterBars, priceOf, same, sameBarrier, sameLimiter, strikeCovers};
+ghost use Rattle.rules.specs.Spreads.{kindOf, priceOf, same, sameBarrier, sameLimiter, strikeCovers};
 
 pub fn kind_of(barrier: Barrier) -> u32
     ensures { λ r. ⌜ r ≡ kindOf barrier ⌝ }
@@ -120,29 +120,6 @@ pub fn is_knock_in(barrier: Barrier) -> bool
         Barrier::DownIn(_) => true,
         Barrier::UpOut(_) => false,
         Barrier::DownOut(_) => false,
-    }
-}
-
-// PBh < PBw for calls, PBh > PBw for puts.
-fn held_nearer(option: OptionType, held: u32, written: u32) -> bool
-    ensures { λ r. ⌜ r ≡ heldNearer option held written ⌝ }
-{
-    match option {
-        OptionType::Call => held < written,
-        OptionType::Put => written < held,
-    }
-}
-
-// A held limiter bars a written row without one, and one that is further.
-pub fn limiter_bars(option: OptionType, h: Limiter, w: Limiter) -> bool
-    ensures { λ r. ⌜ r ≡ limiterBars option h w ⌝ }
-{
-    match h {
-        Limiter::NoLimiter => false,
-        Limiter::At(held) => match w {
-            Limiter::NoLimiter => true,
-            Limiter::At(written) => held_nearer(option, held, written),
-        },
     }
 }
 

@@ -1,6 +1,6 @@
 //! Held rows in the order of their strikes. A key is one number: series, family, strike, row.
 
-use reference::account::{Barrier, Terms};
+use reference::account::{Barrier, Limiter, OptionType, Terms};
 
 use crate::ways::{Row, Rows, HIGHEST};
 
@@ -43,10 +43,32 @@ pub fn row_of(key: u64) -> usize {
     (key & 255) as usize
 }
 
-/// The keys of the held rows in each lane, in order.
+/// How near a row's limiter is: greater where it is nearer, 0 without one.
+fn nearness(row: &Row) -> u64 {
+    match (row.terms.limiter, row.series.option_type) {
+        (Limiter::Absent, _) => 0,
+        (Limiter::At(price), OptionType::Call) => HIGHEST + 1 - price as u64,
+        (Limiter::At(price), OptionType::Put) => price as u64 + 1,
+    }
+}
+
+/// The nearest limiter of each series' written rows.
+fn nearest(rows: &Rows) -> [u64; 32] {
+    let mut nearest = [0; 32];
+    for row in rows.list.iter().filter(|row| row.written) {
+        let series = &mut nearest[row.series_number];
+        *series = nearness(row).max(*series);
+    }
+    nearest
+}
+
+/// The keys of the held rows in each lane, in order. A row whose limiter is nearer than that of every written row of its
+/// series pairs with none and is left out.
 pub fn held_lanes(rows: &Rows) -> [Vec<u64>; 2] {
+    let nearest = nearest(rows);
+    let fits = |row: &Row| row.held && nearness(row) <= nearest[row.series_number];
     let mut lanes = [0, 1].map(|_| Vec::with_capacity(rows.list.len()));
-    for (number, row) in rows.list.iter().enumerate().filter(|(_, row)| row.held) {
+    for (number, row) in rows.list.iter().enumerate().filter(|(_, row)| fits(row)) {
         for (lane, place) in lanes.iter_mut().zip(places(row)) {
             lane.push(place + number as u64);
         }

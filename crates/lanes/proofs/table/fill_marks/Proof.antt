@@ -1,13 +1,12 @@
 use Prim.Native.Nat.{_-_, _≤_}
 use Rattle.account.proofs.KnownRows.{read-series-below}
 use Rattle.lanes.proofs.FileFacts.{in-range}
-use Rattle.lanes.proofs.LimiterLaws.{is-met}
+use Rattle.lanes.proofs.LimiterLaws.{limiter-fits}
 use Rattle.lanes.proofs.TableLaws.{marked-more, marked-none}
 use Rattle.lanes.proofs.table.fill_marks.Statement.{statement}
 use Rattle.lanes.proofs.table.fill_marks.Tie as tie
 use Rattle.lanes.specs.Marks.{Marked}
 use Rattle.rules.specs.File.{accountOf}
-use Rattle.rules.specs.declared.Position.{Position}
 use borrow.Author.Needs.{needs}
 use denote.Ref.{now}
 use lib.ListN.{length, length-set}
@@ -66,7 +65,7 @@ loop-less : tie.Need-loop-less Inv-loop μ-loop
 loop-less c = omega (arith, c .before .before .before .before .before .before .loop-test .taken)
 
 loop-again : tie.Need-loop-again Inv-loop μ-loop
-loop-again c = (omega (arith, c .before .before .before .before .before .before .loop-test .taken), simp length-set (c .before .before .before .before .before .before .before .loop .inv .1), marked-more (accountOf (now (c .before .before .before .before .before .before .before .before .before .before .before .args .file)) (c .before .before .before .before .before .before .before .before .before .before .before .args .l)) (now (c .before .before .before .before .before .before .before .before .before .before .before .args .table)) (c .before .before .before .before .before .before .before .loop .r) (c .before .before .before .before .before .before .before .loop .table) (omega (arith, c .before .before .before .before .before .before .loop-test .taken, c .before .before .before .before .before .before .before .before .before .before .before .pre .file .placed .positions-most, c .before .before .before .before .before .before .before .loop .inv .1, c .before .before .before .before .before .before .before .before .before .before .before .pre .room)) (omega (arith, c .before .before .before .before .before .before .loop-test .taken, c .before .before .before .before .before .before .before .before .before .before .before .pre .file .placed .positions-most, c .before .before .before .before .before .before .before .loop .inv .1, c .before .before .before .before .before .before .before .before .before .before .before .pre .room)) (c .before .before .before .before .before .before .before .loop .inv .2) _ (c .before .before .before .before .before .position-at .result) (c .before .mark-of .result) (c .unit-of-row .result) (c .before .before .before .before .before .position-at .ensures) (is-met (accountOf (now (c .before .before .before .before .before .before .before .before .before .before .before .args .file)) (c .before .before .before .before .before .before .before .before .before .before .before .args .l)) (now (c .before .before .before .before .before .before .before .before .before .before .before .args .near)) (c .before .before .before .before .before .before .before .before .before .before .before .pre .near-are) (c .before .before .before .before .before .position-at .result) (c .before .before .before .before .before .before .before .loop .r) (c .before .before .before .before .nearness-of .result) (c .before .before .before .before .before .position-at .ensures) (omega (arith, (read-series-below (now (c .before .before .before .before .before .before .before .before .before .before .before .args .file)) (c .before .before .before .before .before .before .before .before .before .before .before .args .l) (c .before .before .before .before .before .before .before .before .before .before .before .pre .file) (c .before .before .before .before .before .before .before .loop .r) (c .before .before .before .before .before .before .loop-test .taken) (c .before .before .before .before .before .position-at .result) (c .before .before .before .before .before .position-at .ensures)), c .before .before .before .before .before .before .before .before .before .before .before .pre .file .placed .series-most, c .before .before .before .before .before .before .before .before .before .before .before .pre .near-room)) (c .before .before .before .before .nearness-of .ensures)) (c .before .mark-of .ensures) (c .unit-of-row .ensures))
+loop-again c = (omega (arith, c .before .before .before .before .before .before .loop-test .taken), simp length-set (c .before .before .before .before .before .before .before .loop .inv .1), marked-more (accountOf (now (c .before .before .before .before .before .before .before .before .before .before .before .args .file)) (c .before .before .before .before .before .before .before .before .before .before .before .args .l)) (now (c .before .before .before .before .before .before .before .before .before .before .before .args .table)) (c .before .before .before .before .before .before .before .loop .r) (c .before .before .before .before .before .before .before .loop .table) (omega (arith, c .before .before .before .before .before .before .loop-test .taken, c .before .before .before .before .before .before .before .before .before .before .before .pre .file .placed .positions-most, c .before .before .before .before .before .before .before .loop .inv .1, c .before .before .before .before .before .before .before .before .before .before .before .pre .room)) (omega (arith, c .before .before .before .before .before .before .loop-test .taken, c .before .before .before .before .before .before .before .before .before .before .before .pre .file .placed .positions-most, c .before .before .before .before .before .before .before .loop .inv .1, c .before .before .before .before .before .before .before .before .before .before .before .pre .room)) (c .before .before .before .before .before .before .before .loop .inv .2) _ (c .before .before .before .before .before .position-at .result) (c .before .mark-of .result) (c .unit-of-row .result) (c .before .before .before .before .before .position-at .ensures) (limiter-fits (accountOf (now (c .before .before .before .before .before .before .before .before .before .before .before .args .file)) (c .before .before .before .before .before .before .before .before .before .before .before .args .l)) (now (c .before .before .before .before .before .before .before .before .before .before .before .args .near)) (c .before .before .before .before .before .before .before .before .before .before .before .pre .near-are) (c .before .before .before .before .before .position-at .result) (c .before .before .before .before .before .before .before .loop .r) (c .before .before .before .before .nearness-of .result) (c .before .before .before .before .before .position-at .ensures) (omega (arith, (read-series-below (now (c .before .before .before .before .before .before .before .before .before .before .before .args .file)) (c .before .before .before .before .before .before .before .before .before .before .before .args .l) (c .before .before .before .before .before .before .before .before .before .before .before .pre .file) (c .before .before .before .before .before .before .before .loop .r) (c .before .before .before .before .before .before .loop-test .taken) (c .before .before .before .before .before .position-at .result) (c .before .before .before .before .before .position-at .ensures)), c .before .before .before .before .before .before .before .before .before .before .before .pre .file .placed .series-most, c .before .before .before .before .before .before .before .before .before .before .before .pre .near-room)) (c .before .before .before .before .nearness-of .ensures)) (c .before .mark-of .ensures) (c .unit-of-row .ensures))
 
 same-length : tie.Need-same-length Inv-loop μ-loop
 same-length c = c .before .loop .inv .1

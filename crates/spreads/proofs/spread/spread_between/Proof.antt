@@ -1,6 +1,5 @@
 use Rattle.rules.proofs.SpreadForms.{knock-in-spread, limiter-barred, one-kind-rule, two-kinds}
 use Rattle.rules.specs.Spreads.{kindOf}
-use Rattle.rules.specs.declared.Spread.the-variants.{Barred}
 use Rattle.spreads.proofs.spread.spread_between.Statement.{statement}
 use Rattle.spreads.proofs.spread.spread_between.Tie as tie
 use borrow.Author.Needs.{needs}
@@ -11,7 +10,7 @@ limiter-bars-requires : tie.Need-limiter-bars-requires
 limiter-bars-requires c κs = search needs
 
 returns : tie.Need-returns
-returns c = limiter-barred (c .before .before .args .s) (c .before .before .args .h) (c .before .before .args .w) Barred (sym (c .before .limiter-bars .ensures) ∙ c .if1 .taken)
+returns c = limiter-barred (c .before .before .args .s) (c .before .before .args .h) (c .before .before .args .w) (sym (c .before .limiter-bars .ensures) ∙ c .if1 .taken)
 
 kind-of-requires : tie.Need-kind-of-requires
 kind-of-requires c κs = search needs
@@ -20,7 +19,7 @@ kind-of-requires-2 : tie.Need-kind-of-requires-2
 kind-of-requires-2 c κs = search needs
 
 returns-2 : tie.Need-returns-2
-returns-2 c = two-kinds (c .before .before .before .before .before .args .s) (c .before .before .before .before .before .args .h) (c .before .before .before .before .before .args .w) Barred (sym (c .before .before .before .before .limiter-bars .ensures) ∙ c .before .before .before .if1 .left) (ne-eqb (kindOf ((c .before .before .before .before .before .args .h) .barrier)) (kindOf ((c .before .before .before .before .before .args .w) .barrier)) (rw (c .before .before .kind-of .ensures, c .before .kind-of2 .ensures) at (c .if2 .taken)))
+returns-2 c = two-kinds (c .before .before .before .before .before .args .s) (c .before .before .before .before .before .args .h) (c .before .before .before .before .before .args .w) (sym (c .before .before .before .before .limiter-bars .ensures) ∙ c .before .before .before .if1 .left) (ne-eqb (kindOf ((c .before .before .before .before .before .args .h) .barrier)) (kindOf ((c .before .before .before .before .before .args .w) .barrier)) (rw (c .before .before .kind-of .ensures, c .before .kind-of2 .ensures) at (c .if2 .taken)))
 
 is-knock-in-requires : tie.Need-is-knock-in-requires
 is-knock-in-requires c κs = search needs

@@ -1,5 +1,5 @@
-use Rattle.spreads.proofs.terms.limiter_bars.Statement.{statement}
-use Rattle.spreads.proofs.terms.limiter_bars.Tie as tie
+use Rattle.spreads.proofs.limiters.limiter_bars.Statement.{statement}
+use Rattle.spreads.proofs.limiters.limiter_bars.Tie as tie
 use borrow.Author.Needs.{needs}
 
 enum-told : tie.Need-enum-told

@@ -1,5 +1,5 @@
-use Rattle.spreads.proofs.terms.held_nearer.Statement.{statement}
-use Rattle.spreads.proofs.terms.held_nearer.Tie as tie
+use Rattle.spreads.proofs.limiters.held_nearer.Statement.{statement}
+use Rattle.spreads.proofs.limiters.held_nearer.Tie as tie
 use borrow.Author.Needs.{needs}
 
 enum-told : tie.Need-enum-told
