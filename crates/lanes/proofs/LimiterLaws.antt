@@ -12,7 +12,7 @@ use lib.Dec.{eqb, leb}
 use lib.ListN.{getD-replicate, length, replicate, set}
 use lib.Seq.{getD-set-other, getD-set-same}
 use borrow.Author.Tests.{eq-eqb, le-leb, ltb-false, ne-eqb}
-use Rattle.lanes.specs.Limiters.{Nearest, ifWritten, limiterFits, nearest, nearness, nearnessOf}
+use Rattle.lanes.specs.Limiters.{Nearest, ifWritten, limiterFits, nearestLimiter, nearness, nearnessOf}
 use Rattle.numbers.proofs.Order.{newest, same as decide}
 use Rattle.numbers.specs.Lists.{nth}
 use Rattle.rules.proofs.MayPair.{may-pairable}
@@ -37,18 +37,18 @@ no-nearer Put (At pbh) (At pbw) e = let o = ltb-false pbw pbh e in omega arith
 
 -- The nearest limiter with one row more.
 nearest-more : (a : Account) (s n : ℕ)
-    → nearest a s (n + 1) ≡ max (nearest a s n) (cond (eqb (a .positionAt n .series) s) (ifWritten (a .positionAt n .side) (nearnessOf a n)) 0)
-unfolding nearest
+    → nearestLimiter a s (n + 1) ≡ max (nearestLimiter a s n) (cond (eqb (a .positionAt n .series) s) (ifWritten (a .positionAt n .side) (nearnessOf a n)) 0)
+unfolding nearestLimiter
 nearest-more a s n = rw add-one refl
 
 -- A written row's limiter is no nearer than the nearest of its series.
-nearest-most : (a : Account) (s w n : ℕ) → w < n → a .positionAt w .series ≡ s → ifWritten (a .positionAt w .side) (nearnessOf a w) ≤ nearest a s n
-unfolding nearest
+nearest-most : (a : Account) (s w n : ℕ) → w < n → a .positionAt w .series ≡ s → ifWritten (a .positionAt w .side) (nearnessOf a w) ≤ nearestLimiter a s n
+unfolding nearestLimiter
 nearest-most a s w zero l e = absurd (omega arith)
 nearest-most a s w (suc n) l e = go (newest w n (omega arith)) (λ b. nearest-most a s w n b e)
   where
-    go : (w ≡ n) ⊎ (w < n) → (w < n → ifWritten (a .positionAt w .side) (nearnessOf a w) ≤ nearest a s n)
-        → ifWritten (a .positionAt w .side) (nearnessOf a w) ≤ nearest a s (suc n)
+    go : (w ≡ n) ⊎ (w < n) → (w < n → ifWritten (a .positionAt w .side) (nearnessOf a w) ≤ nearestLimiter a s n)
+        → ifWritten (a .positionAt w .side) (nearnessOf a w) ≤ nearestLimiter a s (suc n)
     go (inl q) f = rw (sym q, eq-eqb (a .positionAt w .series) s e) (omega arith)
     go (inr b) f = omega (arith, f b)
 
@@ -66,7 +66,7 @@ may-fit a w h l e =
     let of-held : nearnessOf a h ≡ nearness (s .option) (normal held .limiter) = rw (one, flag-1-leaves held .1) refl in
     let of-written : nearnessOf a w ≡ nearness (s .option) (normal written .limiter) = rw (flag-1-leaves written .1) refl in
     let most = rw (p .is-written) at (nearest-most a (held .series) w (a .positions) l (p .one-series)) in
-    le-leb (nearnessOf a h) (nearest a (held .series) (a .positions)) (omega (arith, near, of-held, of-written, most))
+    le-leb (nearnessOf a h) (nearestLimiter a (held .series) (a .positions)) (omega (arith, near, of-held, of-written, most))
 
 -- One row more.
 module _ (a : Account) (n : ℕ) (near : List ℕ) (f : Nearest a n near) where
@@ -74,7 +74,7 @@ module _ (a : Account) (n : ℕ) (near : List ℕ) (f : Nearest a n near) where
       → x ≡ ifWritten (a .positionAt n .side) (nearnessOf a n) → y ≡ max (nth near s) x → Nearest a (n + 1) (set near s y)
   nearest-put s x y l room is ex ey t lt = go (decide t s)
     where
-      go : (t ≡ s) ⊎ (t ≡ s → ⊥) → nth (set near s y) t ≡ nearest a t (n + 1)
+      go : (t ≡ s) ⊎ (t ≡ s → ⊥) → nth (set near s y) t ≡ nearestLimiter a t (n + 1)
       go (inl q) =
           rw (q, nearest-more a s n, eq-eqb (a .positionAt n .series) s (sym is))
           (getD-set-same near s y 0 (omega arith) ∙ ey ∙ rw (f s l, ex) refl)
@@ -87,9 +87,9 @@ pub limiter-fits : (a : Account) (near : List ℕ) → Nearest a (a .positions) 
     → x ≡ nearness (a .seriesAt (p .series) .option) (p .terms .limiter) → leb x (nth near (p .series)) ≡ limiterFits a r
 limiter-fits a near f p r x e l ex =
     rw (f (p .series) l, ex)
-    (ap (λ (q : Position). leb (nearness (a .seriesAt (q .series) .option) (q .terms .limiter)) (nearest a (q .series) (a .positions))) e)
+    (ap (λ (q : Position). leb (nearness (a .seriesAt (q .series) .option) (q .terms .limiter)) (nearestLimiter a (q .series) (a .positions))) e)
 
 -- Zeros, before the first row.
 pub nearest-none : (a : Account) → Nearest a 0 (replicate 32 0)
-unfolding nearest
+unfolding nearestLimiter
 nearest-none a s l = getD-replicate {A = ℕ} 32 s 0 0 l

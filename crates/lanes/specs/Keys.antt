@@ -50,8 +50,7 @@ pairsAsHeld p = isHeld (p .side) && europeanOrBeforeAnnex p
 abbrev pub pairsAsWritten : Position → Bool
 pairsAsWritten p = isWritten (p .side) && europeanOrBeforeAnnex p
 
--- The held rows in the lanes. One whose limiter is nearer than that of every written row of its series is left out: it is in
--- no pair.
+-- The held rows in the lanes. One whose limiter bars its pair with every written row of its series is left out.
 abbrev pub inLanes : Account → ℕ → Bool
 inLanes a r = pairsAsHeld (a .positionAt r) && limiterFits a r
 
@@ -88,8 +87,8 @@ placeOf p = groupOf p + p .terms .pe * 256
 abbrev pub fromOf : ℕ → Position → ℕ
 fromOf o p = cond (eqb o upLane) (placeOf p) (last - placeOf p)
 
--- Where the keys of the rows end that may pair with p: with the group, or for knock-ins with the strike, where no written row
--- looks in the down lane.
+-- Where the keys of the rows end that may pair with p: with the group, or for knock-ins with the strike. In the down lane, which
+-- is looked at strictly below the strike, a knock-in has no such row, and the end is 0.
 abbrev pub topOf : ℕ → Position → ℕ
 topOf o p =
     cond (eqb (family p) 3)

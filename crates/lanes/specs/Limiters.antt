@@ -1,6 +1,6 @@
 -- How near limiters are. A limiter is the nearer the sooner it stops the payoff: at a lower price for a call, at a higher one
--- for a put. A held row whose limiter is nearer than that of every written row of its series is in no pair (document 02
--- [3]), so that it stays out of the lanes.
+-- for a put. A held row whose limiter bars its pair with every written row of its series (document 02 [3]) stays out of the
+-- lanes.
 use Prim.Native.Nat.{ℕ, zero, suc, _+_, _-_, _<_, max}
 use mathlib.Core.Bool.{Bool, cond}
 use mathlib.Core.List.{List}
@@ -36,16 +36,16 @@ abbrev pub ifWritten : Side → ℕ → ℕ
 ifWritten Held x = 0
 ifWritten Written x = x
 
--- The nearest limiter of the written rows of series s among the first n rows.
-unfoldable pub nearest : Account → ℕ → ℕ → ℕ
-nearest a s zero = 0
-nearest a s (suc n) =
-    max (nearest a s n) (cond (eqb (a .positionAt n .series) s) (ifWritten (a .positionAt n .side) (nearnessOf a n)) 0)
+-- How near the nearest limiter among the written rows of series s is, of the first n rows; 0 where none has one.
+unfoldable pub nearestLimiter : Account → ℕ → ℕ → ℕ
+nearestLimiter a s zero = 0
+nearestLimiter a s (suc n) =
+    max (nearestLimiter a s n) (cond (eqb (a .positionAt n .series) s) (ifWritten (a .positionAt n .side) (nearnessOf a n)) 0)
 
 -- Some written row of the series of row r has a limiter at least as near as row r's, or row r has none.
 abbrev pub limiterFits : Account → ℕ → Bool
-limiterFits a r = leb (nearnessOf a r) (nearest a (a .positionAt r .series) (a .positions))
+limiterFits a r = leb (nearnessOf a r) (nearestLimiter a (a .positionAt r .series) (a .positions))
 
--- The nearest of every series among the first n rows.
+-- The list has this number of every series.
 abbrev pub Nearest : Account → ℕ → List ℕ → Type 0
-Nearest a n near = (s : ℕ) → s < mostSeries → nth near s ≡ nearest a s n
+Nearest a n near = (s : ℕ) → s < mostSeries → nth near s ≡ nearestLimiter a s n

@@ -94,7 +94,7 @@ pub record TableFilled (a : Account) (old new written : List ℕ) (n : ℕ) : Ty
   pub lines : SameLines old new
   pub sorted : Sorted new 1 written n (a .positions)
 
--- What marks rest on: the nearest limiters of the series.
+-- What marks rest on: how near the nearest limiter of each series' written rows is.
 pub record MarksAsked (b : List ℕ) (l : Layout) (near table : List ℕ) : Type 0 where
   pub file : Known b l
   pub near-room : mostSeries ≤ length near

@@ -60,7 +60,8 @@ fn european_or_before_annex(p: Position) -> bool
     flags.european | flags.beforeAnnex
 }
 
-// 0 for a held row whose limiter fits, 1 for a written row, 2 for neither.
+// 0 for a held row whose limiter fits, which is no nearer than some written row's of its series, 1 for a written row, 2 for
+// neither.
 fn role_of(fits: bool, p: Position) -> u64
     ensures { λ r. ⌜ (r ≡ roleOf fits p) × (r ≤ 2) ⌝ }
 {

@@ -1,4 +1,4 @@
-// The nearest limiter among the written rows of each series.
+// How near the nearest limiter among the written rows of each series is.
 use account::lookup::position_at;
 use account::lookup::series_of_position;
 use numbers::larger;
@@ -59,7 +59,7 @@ fn written_nearness(file: &[u8], l: Layout, p: Position) -> u64
     }
 }
 
-// The nearest limiter of each series' written rows; the list holds zeros before the call.
+// How near the nearest limiter of each series' written rows is; the list holds zeros before the call.
 pub fn fill_nearest(file: &[u8], l: Layout, near: &mut [u64])
     requires { ⌜ Known (now file) l × (mostSeries ≤ length (now near)) × Nearest (accountOf (now file) l) 0 (now near) ⌝ }
     ensures { λ _. ⌜ Nearest (accountOf (now (file .entry)) l) (l .positions) (now (near .exit)) ⌝ }

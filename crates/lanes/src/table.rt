@@ -33,7 +33,8 @@ fn unit_of_row(file: &[u8], l: Layout, p: Position) -> u64
     }
 }
 
-// Marks and unit margins of all rows. A held row's limiter fits where it is no nearer than the nearest of its series.
+// Marks and unit margins of all rows. A held row's limiter fits where it is no nearer than the nearest of its series' written
+// rows.
 fn fill_marks(file: &[u8], l: Layout, near: &[u64], table: &mut [u64])
     requires { ⌜ MarksAsked (now file) l (now near) (now table) ⌝ }
     ensures { λ _. ⌜ Marked (accountOf (now (file .entry)) l) (l .positions) (now (table .entry)) (now (table .exit)) ⌝ }

@@ -42,7 +42,8 @@ fn pair_rounds(
 
 // All pairs of an accepted file: left holds the contracts of each row and is lowered, the pairs are written as lines
 // from line 0 on, and their amounts added up. The table is filled on the way, and has the unit margins for the lines of
-// rows left. It is made with the lists that are written anew after it, so that a call sets no further ones to 0.
+// rows left. It is made with the lists that are written anew after it, so that a call sets no further ones to 0 but a number
+// for each series.
 // Without rows there is nothing to pair, and a tree has at least one leaf.
 pub fn pair_up(
     file: &[u8],

@@ -1,5 +1,5 @@
--- Document 02 [3], why limiters bar: of each bar a call and a put that the spread formula in force would not cover. The series
--- are those of the checked values (H 3600, L 2400).
+-- Document 02 [3], why limiters bar: for each of the two ways in which they bar a pair, a call and a put that the spread
+-- formula in force would not cover. The series are those of the checked values (H 3600, L 2400).
 -- Assumes nothing.
 use Prim.Native.Nat.{ℕ, _+_, _<_}
 use mathlib.Core.List.{[], _∷_}

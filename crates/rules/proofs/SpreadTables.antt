@@ -37,7 +37,8 @@ SameRowSpreads =
     × (spread Put 2900 (DownIn 2300) 0 2900 (DownIn 2300) 0 ≡ Margin 0)
 
 -- The unit spread margin where the held call has strike 3250 and the written one 3100, the held put 2700 and the written one
--- 2900, and both have the same barrier and no rebate: the held and the written limiter.
+-- 2900, and both have the same barrier and no rebate. Arguments: the type, the barrier of both, the held limiter, the written
+-- limiter.
 abbrev pub limited : OptionType → Barrier → Limiter → Limiter → Spread
 limited Call bar pbh pbw = unitSpread (series Call) (row Held 3250 pbh bar 0) (row Written 3100 pbw bar 0)
 limited Put bar pbh pbw = unitSpread (series Put) (row Held 2700 pbh bar 0) (row Written 2900 pbw bar 0)

@@ -38,12 +38,12 @@ fn limited_beside(
 ) -> PositionDraft {
     let limiter = i64::from(price) + random.between(-1, 1);
     let strike = i64::from(row.strike);
-    let fits = if series.type_byte == CALL {
+    let allowed = if series.type_byte == CALL {
         strike < limiter && limiter <= HIGHEST
     } else {
         0 <= limiter && limiter < strike
     };
-    if fits {
+    if allowed {
         row.with_limiter(limiter as u32)
     } else {
         row
