@@ -27,7 +27,7 @@
 /* The version of this header and of the library that it came with. */
 #define SERPENTGLEAM_VERSION "0.4.0"
 #define SERPENTGLEAM_VERSION_MAJOR 0
-#define SERPENTGLEAM_VERSION_MINOR 3
+#define SERPENTGLEAM_VERSION_MINOR 4
 #define SERPENTGLEAM_VERSION_PATCH 0
 
 /* Limits of every account: bytes of its file, series, positions, and lines of its margin. */

@@ -42,6 +42,9 @@ def amounts(checked):
 ROWS_ON_THE_COVER = pack(SERIES, series()) + pack(POSITION, position(kind=9))
 LARGEST = account([series(10_000_000, 10_000_000, 0, 0, 1000)], [position(q=100_000, pe=1)])
 NO_POSITIONS = account(CALL + PUT, [], cover=b'all positions have expired\n')
+LIMITERS = account(CALL, [position(flags=6, pb=3400), position(side=0, flags=6, q=4, pe=3110, pb=3300),
+                          position(side=0, flags=6, q=3, pe=3150, pb=3400), position(side=0, q=2, pe=3200),
+                          position(q=1, pe=3000)], cover=b'limiters inside a spread\n')
 
 ACCEPTED = [
     (account(CALL, rows(CHECKED_CALLS)), amounts(CHECKED_CALLS)),
@@ -187,5 +190,6 @@ write('examples/document.account', EXAMPLE)
 write('examples/knock_in.account', account(CALL, rows(CHECKED_CALLS[2:6]), cover=b'knock-in calls\n'))
 write('examples/knock_out.account', account(CALL, rows(CHECKED_CALLS[6:10]), cover=b'knock-out calls\n'))
 write('examples/largest.account', LARGEST)
+write('examples/limiters.account', LIMITERS)
 write('examples/no_positions.account', NO_POSITIONS)
 write('examples/wrong_side.account', last(kind=4, price=3001))
