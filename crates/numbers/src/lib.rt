@@ -1,27 +1,36 @@
 // Numbers: the larger and the smaller of two, a difference that stops at 0, a product, and an amount with its one
-// rounding up.
+// rounding up. No function here has a branch.
 ghost use Prim.Native.Nat.{_*_, _-_, _≤_, max, min};
+ghost use mathlib.Core.Bool.{cond};
 ghost use mathlib.Core.Path.{_≡_};
 ghost use Rattle.rules.specs.OnePosition.{amountOf};
 ghost use Rattle.rules.specs.Quantities.{fine};
 
+// a where the test holds, else b, computed from the test as a number, 1 or 0 (document 02 [4]).
+fn chosen(test: bool, a: u64, b: u64) -> u64
+    ensures { λ r. ⌜ r ≡ cond test a b ⌝ }
+{
+    let holds = test as u64;
+    a * holds + b * (1 - holds)
+}
+
 pub fn larger(a: u64, b: u64) -> u64
     ensures { λ r. ⌜ r ≡ max a b ⌝ }
 {
-    if a < b { b } else { a }
+    chosen(b <= a, a, b)
 }
 
 pub fn smaller(a: u64, b: u64) -> u64
     ensures { λ r. ⌜ r ≡ min a b ⌝ }
 {
-    if a < b { a } else { b }
+    chosen(a <= b, a, b)
 }
 
-// a less b, and 0 where b is more.
+// max(0; a − b): what the larger of the two is above b.
 pub fn less(a: u64, b: u64) -> u64
     ensures { λ r. ⌜ r ≡ a - b ⌝ }
 {
-    if b <= a { a - b } else { 0 }
+    larger(a, b) - b
 }
 
 pub fn product(a: u32, b: u32) -> u64

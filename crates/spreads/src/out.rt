@@ -11,7 +11,6 @@ use position::quantities::rebate_of;
 use rules::OptionType;
 use rules::Series;
 use rules::Terms;
-ghost use mathlib.Core.Bool.{cond};
 ghost use mathlib.Core.Path.{_≡_};
 ghost use Rattle.rules.specs.Spreads.{downOutSpread, D, outSpread, R, upOutSpread};
 
@@ -51,14 +50,8 @@ fn out_spread(covers: bool, reachable: bool, s: Series, loss: u64, difference: u
     larger(minimum_margin(s), difference)
 }
 
-// The barrier where it is reachable, else the price that it would replace.
-fn replaced(reachable: bool, barrier: u64, price: u64) -> u64
-    ensures { λ r. ⌜ r ≡ cond reachable barrier price ⌝ }
-{
-    if reachable { barrier } else { price }
-}
-
-// Both down-and-out: the held barrier's price and the written one's.
+// Both down-and-out: the held barrier's price and the written one's. L replaced by the written barrier where that is
+// reachable is the larger of the two.
 pub fn down_out_spread(s: Series, odh: u32, odw: u32, h: Terms, w: Terms) -> u64
     ensures { λ r. ⌜ r ≡ downOutSpread s odh odw h w ⌝ }
 {
@@ -68,17 +61,11 @@ pub fn down_out_spread(s: Series, odh: u32, odw: u32, h: Terms, w: Terms) -> u64
     let reachable = low <= barrier;
     let covers = strike_covers(option, h, w);
     let loss = rebate_loss(odh == odw, h, w);
-    let difference = out_loss(
-        option,
-        replaced(reachable, barrier, low),
-        high_price(s),
-        h,
-        w,
-    );
+    let difference = out_loss(option, larger(barrier, low), high_price(s), h, w);
     out_spread(covers, reachable, s, loss, difference)
 }
 
-// Both up-and-out.
+// Both up-and-out. H replaced by the written barrier where that is reachable is the smaller of the two.
 pub fn up_out_spread(s: Series, ouh: u32, ouw: u32, h: Terms, w: Terms) -> u64
     ensures { λ r. ⌜ r ≡ upOutSpread s ouh ouw h w ⌝ }
 {
@@ -88,12 +75,6 @@ pub fn up_out_spread(s: Series, ouh: u32, ouw: u32, h: Terms, w: Terms) -> u64
     let reachable = barrier <= high;
     let covers = strike_covers(option, h, w);
     let loss = rebate_loss(ouh == ouw, h, w);
-    let difference = out_loss(
-        option,
-        low_price(s),
-        replaced(reachable, barrier, high),
-        h,
-        w,
-    );
+    let difference = out_loss(option, low_price(s), smaller(barrier, high), h, w);
     out_spread(covers, reachable, s, loss, difference)
 }

@@ -1,3 +1,5 @@
+use Rattle.numbers.proofs.Choice.{larger}
+use Rattle.rules.specs.Quantities.{fine, low}
 use Rattle.spreads.proofs.out.down_out_spread.Statement.{statement}
 use Rattle.spreads.proofs.out.down_out_spread.Tie as tie
 use borrow.Author.Needs.{needs}
@@ -14,8 +16,8 @@ strike-covers-requires c κs = search needs
 rebate-loss-requires : tie.Need-rebate-loss-requires
 rebate-loss-requires c κs = search needs
 
-replaced-requires : tie.Need-replaced-requires
-replaced-requires c κs = search needs
+larger-requires : tie.Need-larger-requires
+larger-requires c κs = search needs
 
 high-price-requires : tie.Need-high-price-requires
 high-price-requires c κs = search needs
@@ -27,7 +29,7 @@ out-spread-requires : tie.Need-out-spread-requires
 out-spread-requires c κs = search needs
 
 returns : tie.Need-returns
-returns c = rw (c .out-spread .ensures, c .before .out-loss .ensures, c .before .before .before .replaced .ensures, c .before .before .high-price .ensures, c .before .before .before .before .rebate-loss .ensures, c .before .before .before .before .before .strike-covers .ensures, c .before .before .before .before .before .before .low-price .ensures, c .before .before .before .before .before .before .before .fine-units .ensures)
+returns c = rw (c .out-spread .ensures, c .before .out-loss .ensures, c .before .before .before .larger .ensures, c .before .before .high-price .ensures, c .before .before .before .before .rebate-loss .ensures, c .before .before .before .before .before .strike-covers .ensures, c .before .before .before .before .before .before .low-price .ensures, c .before .before .before .before .before .before .before .fine-units .ensures, larger (fine (c .before .before .before .before .before .before .before .before .args .odw)) (low (c .before .before .before .before .before .before .before .before .args .s)))
 
 pub down-out-spread-spec : {M : Type 1} → statement M
 down-out-spread-spec =
@@ -37,7 +39,7 @@ down-out-spread-spec =
     low-price-requires
     strike-covers-requires
     rebate-loss-requires
-    replaced-requires
+    larger-requires
     high-price-requires
     out-loss-requires
     out-spread-requires
