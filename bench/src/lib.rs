@@ -1,9 +1,18 @@
 //! Ways of choosing the pairs of an account, and the accounts that they are measured on. Reading, rules, lines and total
-//! are the reference's. Beside them the factors from the days.
+//! are the reference's. Beside them the factors from the days, and how calls are timed.
 
 pub mod factors;
 pub mod shapes;
+pub mod small;
+pub mod timing;
 pub mod ways;
 
 #[cfg(test)]
 mod tests;
+
+use reference::lines::Entry;
+
+/// The number of pairs in a list of lines.
+pub fn pairs_in(list: &[Entry]) -> usize {
+    list.iter().filter(|entry| entry[0] == 1).count()
+}

@@ -1,18 +1,17 @@
 //! Measures the proved engine against the same work in Rust, from bytes to lines, and prints the tables of
 //! docs/PERFORMANCE.md. Every program's answer is compared with the engine's before it is timed.
 
-mod timing;
-
 use std::hint::black_box;
 
 use bench::factors::Tables;
+use bench::pairs_in;
 use bench::shapes::{account, Shape, SHAPES};
+use bench::timing::{measure, rounds_asked};
 use bench::ways::{lanes, repeated_search, tournament};
 use reference::factors::Factors;
 use reference::lines::{margin_into_by, Entry};
 use reference::position::one_position;
 use reference::reader::Refusal;
-use timing::measure;
 
 /// Line count and total, or the refusal.
 type Answer = Result<(usize, i64), Refusal>;
@@ -49,7 +48,7 @@ fn compare(shape: &Shape, file: &[u8]) -> usize {
         assert!(*answer == answers[0], "{}: the programs differ", shape.name);
     }
     assert!(answers[0].0.is_ok(), "{}: refused", shape.name);
-    answers[0].1.iter().filter(|entry| entry[0] == 1).count()
+    pairs_in(&answers[0].1)
 }
 
 fn times(rounds: usize, file: &[u8]) -> [f64; 4] {
@@ -147,7 +146,7 @@ fn factors_table(rounds: usize) {
 }
 
 fn main() {
-    let rounds = std::env::args().nth(1).and_then(|word| word.parse().ok()).unwrap_or(30);
+    let rounds = rounds_asked(30);
     println!("Microseconds a call, the best of {rounds} bursts of a millisecond each.");
     let engine: Vec<Vec<f64>> = SIZES.iter().map(|size| margin_table(rounds, *size)).collect();
     growth_table(&engine);

@@ -1,13 +1,17 @@
-//! Every way gives the lines and the total of the reference, and the tables its factors.
+//! Every way gives the lines and the total of the reference, and the tables its factors. Single positions are hard to guess.
 
 use reference::factors::factors;
 use reference::factors_list::codes_and_days;
 use reference::lines::{margin_into, margin_into_by, Entry, Pairing};
+use reference::position::written_unit_margin;
 use reference::random::Random;
+use reference::reader::read_account;
 use reference::sample::{limited_alike, sample_account, Shape};
 
 use crate::factors::Tables;
+use crate::pairs_in;
 use crate::shapes::{account, SHAPES};
+use crate::small::{single_positions, small_accounts, KINDS};
 use crate::ways::{lanes, repeated_search, tournament};
 
 const WAYS: [(&str, Pairing); 3] = [
@@ -26,7 +30,7 @@ fn pairs_made(file: &[u8], name: &str) -> usize {
         assert_eq!(margin_into_by(file, &mut found, pairing), answer, "{name}, {way}");
         assert!(found == expected, "{name}, {way}: other lines");
     }
-    expected.iter().filter(|entry| entry[0] == 1).count()
+    pairs_in(&expected)
 }
 
 #[test]
@@ -66,6 +70,31 @@ fn on_random_accounts() {
             pairs += pairs_made(&limited_alike(&mut random, draft).bytes(), name);
         }
         assert!(pairs > 2 * count, "{name}: {pairs} pairs");
+    }
+}
+
+#[test]
+fn on_small_accounts() {
+    let files = small_accounts();
+    let pairs: usize = files.iter().map(|file| pairs_made(file, "small accounts")).sum();
+    assert!(pairs > files.len() / 2, "{pairs} pairs");
+}
+
+/// Is the unit margin of the file's first row the minimum margin?
+fn at_minimum(file: &[u8]) -> bool {
+    let account = read_account(file).unwrap();
+    let series = account.series_of(0);
+    written_unit_margin(series, &account.positions[0].terms()) == series.minimum_margin()
+}
+
+/// Of each kind at least a quarter are at the minimum and a quarter above it.
+#[test]
+fn single_positions_at_and_above_the_minimum() {
+    for (name, kinds) in KINDS {
+        let files = single_positions(kinds);
+        let quarter = files.len() / 4;
+        let least = files.iter().filter(|file| at_minimum(file)).count();
+        assert!((quarter..=3 * quarter).contains(&least), "{name}: {least}");
     }
 }
 

@@ -2,6 +2,11 @@
 
 use std::time::{Duration, Instant};
 
+/// The rounds that the program's first argument asks for, at least one.
+pub fn rounds_asked(otherwise: usize) -> usize {
+    std::env::args().nth(1).and_then(|word| word.parse().ok()).unwrap_or(otherwise).max(1)
+}
+
 /// Microseconds of one call, over as many calls as fill a millisecond.
 fn burst(mut call: impl FnMut()) -> f64 {
     let start = Instant::now();

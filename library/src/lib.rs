@@ -42,19 +42,19 @@ extern "C" {
     fn serpentgleam_factors(code: u64, days: u64) -> Factors;
 }
 
+type MarginEntry = unsafe extern "C" fn(*const u8, usize, *mut Line, usize) -> Margin;
+type PositionAmountEntry = unsafe extern "C" fn(*const u8, usize, u64) -> i64;
+
 /// The file's margin, its lines in the list.
 #[inline]
 pub fn margin(file: &[u8], list: &mut [Line]) -> Margin {
-    let lines = if list.is_empty() { null_mut() } else { list.as_mut_ptr() };
-    // SAFETY: the file and the list are as long as is said, and do not overlap.
-    unsafe { serpentgleam_margin(start_of(file), file.len(), lines, list.len()) }
+    margin_by(serpentgleam_margin, file, list)
 }
 
 /// The amount of one position, or minus the refusal's number.
 #[inline]
 pub fn position_amount(file: &[u8], row: u64) -> i64 {
-    // SAFETY: the file is as long as is said.
-    unsafe { serpentgleam_position_amount(start_of(file), file.len(), row) }
+    position_amount_by(serpentgleam_position_amount, file, row)
 }
 
 /// The premiums of the file's held rows.
@@ -69,6 +69,49 @@ pub fn premiums(file: &[u8]) -> Answer {
 pub fn factors(code: u64, days: u64) -> Factors {
     // SAFETY: no memory is handed over.
     unsafe { serpentgleam_factors(code, days) }
+}
+
+/// Entries of an earlier archive, by the names that bench/against gives them. They are declared as today's are, so an archive
+/// with another header cannot be asked. A program that calls none of them is linked without that archive.
+pub mod earlier {
+    use super::{margin_by, position_amount_by, Line, Margin};
+
+    extern "C" {
+        fn earlier_serpentgleam_margin(
+            file: *const u8,
+            length: usize,
+            lines: *mut Line,
+            room: usize,
+        ) -> Margin;
+        fn earlier_serpentgleam_position_amount(file: *const u8, length: usize, row: u64) -> i64;
+    }
+
+    /// The file's margin, its lines in the list.
+    #[inline]
+    pub fn margin(file: &[u8], list: &mut [Line]) -> Margin {
+        margin_by(earlier_serpentgleam_margin, file, list)
+    }
+
+    /// The amount of one position, or minus the refusal's number.
+    #[inline]
+    pub fn position_amount(file: &[u8], row: u64) -> i64 {
+        position_amount_by(earlier_serpentgleam_position_amount, file, row)
+    }
+}
+
+/// The margin by an entry declared above.
+#[inline]
+fn margin_by(entry: MarginEntry, file: &[u8], list: &mut [Line]) -> Margin {
+    let lines = if list.is_empty() { null_mut() } else { list.as_mut_ptr() };
+    // SAFETY: the file and the list are as long as is said, and do not overlap.
+    unsafe { entry(start_of(file), file.len(), lines, list.len()) }
+}
+
+/// The amount by an entry declared above.
+#[inline]
+fn position_amount_by(entry: PositionAmountEntry, file: &[u8], row: u64) -> i64 {
+    // SAFETY: the file is as long as is said.
+    unsafe { entry(start_of(file), file.len(), row) }
 }
 
 /// NULL for a file without bytes.

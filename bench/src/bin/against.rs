@@ -1,0 +1,108 @@
+//! Measures an earlier archive of the library and today's in one process, by turns, for `bash bench/against`. Their answers
+//! are compared first, and each row of the tables says whether they are the same.
+
+use std::cell::RefCell;
+use std::hint::black_box;
+
+use bench::pairs_in;
+use bench::shapes::{account, SHAPES};
+use bench::small::{single_positions, small_accounts, KINDS};
+use bench::timing::{measure, rounds_asked};
+use library::{earlier, Line, Margin};
+
+type MarginProgram = fn(&[u8], &mut [Line]) -> Margin;
+type AmountProgram = fn(&[u8], u64) -> i64;
+type List = [Line; 256];
+
+/// The earlier archive's, then today's.
+const MARGINS: [MarginProgram; 2] = [earlier::margin, library::margin];
+const AMOUNTS: [AmountProgram; 2] = [earlier::position_amount, library::position_amount];
+const EMPTY: List = [[0; 5]; 256];
+const SIZES: [u32; 2] = [16, 256];
+
+/// Both answers for a file, each with its lines.
+fn margins(file: &[u8]) -> [(Margin, List); 2] {
+    MARGINS.map(|margin| {
+        let mut list = EMPTY;
+        (margin(file, &mut list), list)
+    })
+}
+
+/// Microseconds of each program's call, over all files one after another.
+fn times(rounds: usize, files: &[Vec<u8>], programs: [impl Fn(&[u8]); 2]) -> [f64; 2] {
+    let [earlier, today] = &programs.map(|program| {
+        move || {
+            for file in files {
+                program(black_box(file));
+            }
+        }
+    });
+    measure(rounds, [earlier, today]).map(|time| time / files.len() as f64)
+}
+
+/// Measures the margins of all files. One list is lent again and again, as in a run over many accounts.
+fn margin_row(rounds: usize, name: &str, files: &[Vec<u8>]) {
+    let same = files.iter().map(|file| margins(file)).all(|[earlier, today]| earlier == today);
+    let pairs = files.iter().map(|file| pairs_in(&margins(file)[1].1)).sum();
+    let list = &RefCell::new(EMPTY);
+    let programs = MARGINS.map(|margin| {
+        move |file: &[u8]| {
+            black_box(margin(file, &mut *list.borrow_mut()));
+        }
+    });
+    print_row(name, pairs, times(rounds, files, programs), same);
+}
+
+/// Measures the amount of the first row of all files.
+fn amount_row(rounds: usize, name: &str, files: &[Vec<u8>]) {
+    let amounts = |file: &Vec<u8>| AMOUNTS.map(|amount| amount(file, 0));
+    let same = files.iter().map(amounts).all(|[earlier, today]| earlier == today);
+    let programs = AMOUNTS.map(|amount| {
+        move |file: &[u8]| {
+            black_box(amount(file, black_box(0)));
+        }
+    });
+    print_row(name, 0, times(rounds, files, programs), same);
+}
+
+fn print_heading(title: &str) {
+    println!("\n### {title}\n");
+    println!("| shape | pairs | earlier | today | today / earlier | same answer |");
+    println!("|---|---|---|---|---|---|");
+}
+
+fn print_row(name: &str, pairs: usize, [earlier, today]: [f64; 2], same: bool) {
+    let ratio = today / earlier;
+    let [earlier, today] = [earlier, today].map(with_decimals);
+    let same = if same { "yes" } else { "no" };
+    println!("| {name} | {pairs} | {earlier} | {today} | {ratio:.2} | {same} |");
+}
+
+fn with_decimals(time: f64) -> String {
+    let decimals = if time < 1.0 { 3 } else { 2 };
+    format!("{time:.decimals$}")
+}
+
+fn shape_table(rounds: usize, size: u32) {
+    print_heading(&format!("{size} rows"));
+    for shape in &SHAPES {
+        margin_row(rounds, shape.name, &[account(shape, size)]);
+    }
+}
+
+fn small_table(rounds: usize) {
+    print_heading("Many small accounts");
+    margin_row(rounds, "small accounts, one after another", &small_accounts());
+    for (name, kinds) in KINDS {
+        amount_row(rounds, &format!("single positions, {name}"), &single_positions(kinds));
+    }
+}
+
+fn main() {
+    let rounds = rounds_asked(160);
+    println!("Microseconds a call, the best of {rounds} bursts of a millisecond each, by turns.");
+    for size in SIZES {
+        shape_table(rounds, size);
+    }
+    small_table(rounds);
+}

@@ -1,0 +1,56 @@
+//! Many small accounts at random, to be measured one after another: which of two numbers in a margin rule is the larger
+//! cannot be told from the accounts before.
+
+use std::iter::repeat_with;
+
+use reference::draft::{
+    Draft, PositionDraft, DOWN_AND_IN, DOWN_AND_OUT, NO_BARRIER, UP_AND_IN, UP_AND_OUT, WRITTEN,
+};
+use reference::random::Random;
+use reference::sample::{sample_account, Shape};
+
+/// So many that a processor does not learn them by heart. An AMD EPYC learns 256 small accounts, and 4,096 single positions
+/// of one kind; it takes no longer for one of 16,384 than for one of these.
+const SMALL_ACCOUNTS: usize = 4_096;
+const SINGLE_POSITIONS: usize = 32_768;
+
+const SMALL: Shape = Shape {
+    series: (1, 2),
+    positions: (2, 8),
+    pv: (900, 4_000),
+    quantity: (1, 100),
+    m: (1, 10),
+    fb_above_one: false,
+};
+const SINGLE: Shape = Shape { series: (1, 1), positions: (1, 1), ..SMALL };
+
+/// What single positions are called, and the kinds of barrier that they have.
+pub const KINDS: [(&str, &[u8]); 6] = [
+    ("one row each", &[NO_BARRIER, UP_AND_IN, DOWN_AND_IN, UP_AND_OUT, DOWN_AND_OUT]),
+    ("no barrier", &[NO_BARRIER]),
+    ("up-and-in", &[UP_AND_IN]),
+    ("down-and-in", &[DOWN_AND_IN]),
+    ("up-and-out", &[UP_AND_OUT]),
+    ("down-and-out", &[DOWN_AND_OUT]),
+];
+
+/// Accounts of 2 to 8 rows.
+pub fn small_accounts() -> Vec<Vec<u8>> {
+    let mut random = Random::new(1);
+    (0..SMALL_ACCOUNTS).map(|_| sample_account(&mut random, &SMALL).bytes()).collect()
+}
+
+/// Accounts of one written row, of one of the kinds.
+pub fn single_positions(kinds: &[u8]) -> Vec<Vec<u8>> {
+    let mut random = Random::new(1);
+    repeat_with(|| sample_account(&mut random, &SINGLE))
+        .filter(|draft| kinds.contains(&draft.positions[0].kind))
+        .map(|draft| with_row_written(draft).bytes())
+        .take(SINGLE_POSITIONS)
+        .collect()
+}
+
+fn with_row_written(mut draft: Draft) -> Draft {
+    draft.positions[0] = PositionDraft { side: WRITTEN, premium: 0, ..draft.positions[0] };
+    draft
+}
