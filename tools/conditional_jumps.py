@@ -2,7 +2,7 @@
 """Conditional jumps and conditional moves in the compiled functions of an archive.
 
     python3 tools/conditional_jumps.py ARCHIVE               # how many each function has
-    python3 tools/conditional_jumps.py ARCHIVE FUNCTION      # each jump, after the comparison that it depends on
+    python3 tools/conditional_jumps.py ARCHIVE FUNCTION      # each jump, after the instruction that it depends on
 
 FUNCTION is the name that the first form prints. Needs objdump (binutils).
 """
@@ -12,7 +12,8 @@ import sys
 
 FUNCTION = re.compile(r"^[0-9a-f]+ <(.+)>:$")
 INSTRUCTION = re.compile(r"^ *([0-9a-f]+):\t(\S+) *([^#<]*)")
-COMPARISONS = ("cmp", "test", "sub", "bt")
+# Those of the compiled functions that say whether a jump is taken.
+SETS_FLAGS = re.compile(r"(adc|add|and|bt|cmp|dec|imul|inc|neg|or|sar|sbb|shl|shr|sub|test|xor)[bwlq]?")
 
 
 def instructions_by_function(archive):
@@ -31,7 +32,7 @@ def instructions_by_function(archive):
 
 
 def is_conditional_jump(name):
-    return name.startswith("j") and name != "jmp"
+    return name.startswith("j") and not name.startswith("jmp")
 
 
 def print_counts(functions):
@@ -45,12 +46,12 @@ def print_counts(functions):
 
 
 def print_jumps(instructions):
-    compared = ""
+    decides = ""
     for offset, name, operands in instructions:
-        if name.startswith(COMPARISONS):
-            compared = f"{name} {operands}"
+        if SETS_FLAGS.fullmatch(name):
+            decides = f"{name} {operands}"
         elif is_conditional_jump(name):
-            print(f"{offset:>5}  {compared:<28} {name} {operands}")
+            print(f"{offset:>5}  {decides:<28} {name} {operands}")
 
 
 def main():

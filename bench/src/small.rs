@@ -9,8 +9,8 @@ use reference::draft::{
 use reference::random::Random;
 use reference::sample::{sample_account, Shape};
 
-/// So many that a processor does not learn them by heart. An AMD EPYC learns 256 small accounts, and 4,096 single positions
-/// of one kind; it takes no longer for one of 16,384 than for one of these.
+/// So many that a processor cannot predict which number is the larger from what it met before. An AMD EPYC still can with
+/// 256 small accounts, or 4,096 single positions of one kind; with 16,384 positions one takes as long as with these.
 const SMALL_ACCOUNTS: usize = 4_096;
 const SINGLE_POSITIONS: usize = 32_768;
 
@@ -24,9 +24,9 @@ const SMALL: Shape = Shape {
 };
 const SINGLE: Shape = Shape { series: (1, 1), positions: (1, 1), ..SMALL };
 
-/// What single positions are called, and the kinds of barrier that they have.
+/// Kinds of barrier of single positions, by name.
 pub const KINDS: [(&str, &[u8]); 6] = [
-    ("one row each", &[NO_BARRIER, UP_AND_IN, DOWN_AND_IN, UP_AND_OUT, DOWN_AND_OUT]),
+    ("kinds mixed", &[NO_BARRIER, UP_AND_IN, DOWN_AND_IN, UP_AND_OUT, DOWN_AND_OUT]),
     ("no barrier", &[NO_BARRIER]),
     ("up-and-in", &[UP_AND_IN]),
     ("down-and-in", &[DOWN_AND_IN]),

@@ -1,4 +1,5 @@
-//! Every way gives the lines and the total of the reference, and the tables its factors. Single positions are hard to guess.
+//! Every way gives the lines and the total of the reference, and the tables its factors. Of the single positions of each kind
+//! at least a quarter are at the minimum margin and a quarter above it.
 
 use reference::factors::factors;
 use reference::factors_list::codes_and_days;
@@ -87,7 +88,6 @@ fn at_minimum(file: &[u8]) -> bool {
     written_unit_margin(series, &account.positions[0].terms()) == series.minimum_margin()
 }
 
-/// Of each kind at least a quarter are at the minimum and a quarter above it.
 #[test]
 fn single_positions_at_and_above_the_minimum() {
     for (name, kinds) in KINDS {

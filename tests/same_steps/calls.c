@@ -115,7 +115,7 @@ void print_account(const struct account *a)
 
 /* Steps through two accounts' calls again and prints the first instruction after which they go on differently. Its address
  * is the one that nm and objdump print for the program. */
-void print_parting(const struct account *a, const struct account *b)
+void print_difference(const struct account *a, const struct account *b)
 {
     static uint64_t first[MOST_STEPS], second[MOST_STEPS];
     uint32_t i = 1;

@@ -52,7 +52,7 @@ static struct steps steps_with(void (*call)(void), uint64_t a, uint64_t b, int *
 }
 
 /* Whether a maximum has other steps where the first number is the larger one. */
-static int parts(void (*call)(void), int *wrong)
+static int differ(void (*call)(void), int *wrong)
 {
     struct steps s = steps_with(call, 3, 8, wrong), t = steps_with(call, 8, 3, wrong);
 
@@ -62,8 +62,8 @@ static int parts(void (*call)(void), int *wrong)
 int stepping_tells(void)
 {
     int wrong = 0;
-    int by_jump = parts(larger_by_jump, &wrong);
-    int by_move = parts(larger_by_move, &wrong);
+    int by_jump = differ(larger_by_jump, &wrong);
+    int by_move = differ(larger_by_move, &wrong);
 
     return by_jump && !by_move && wrong == 0;
 }

@@ -3,14 +3,16 @@
  * it of the compiled code, also where it is inlined: two calls that differ in which of two numbers is the larger execute
  * the same instructions in the same order.
  *
- * Accounts are put into classes by what the rules and the pairing themselves ask: type, barrier, limiter, whether the
- * barrier is reachable, and for a written and a held row whether their barriers are equal, their strikes' order and whether
- * they pair. In each class accounts are drawn until every comparison of the rules' maxima and minima has come out both
- * ways, and all their calls must have the same steps. For one row the call is serpentgleam_position_amount, for two rows
- * serpentgleam_margin. The answers are compared with the test's own arithmetic.
+ * Accounts are put into classes by what the rules and the pairing themselves ask: type, barrier, flag 1, limiter, whether
+ * the barrier is reachable, and for a written and a held row whether their barriers are equal, their strikes' order and
+ * whether they pair. In each class accounts are drawn until every comparison of the rules' maxima and minima has come out
+ * both ways, where the class leaves both open, and all their calls must have the same steps. For one row the call is
+ * serpentgleam_position_amount, for two rows serpentgleam_margin. The answers are compared with the test's own arithmetic.
  *
- * What this cannot show: max(0; PEh - PEw) of rows without barrier and max(0; PEw - PEh), since the pairing looks for
- * strikes above and below the written one by different instructions, so that their order belongs to the class.
+ * What this cannot show: max(0; PEh - PEw) of calls and max(0; PEw - PEh) of puts without barrier, since the pairing looks
+ * for strikes above and below the written one by different instructions, so that their order belongs to the class; the
+ * smaller of H and an upper barrier and the larger of L and a lower one, since whether the barrier is reachable does; and
+ * the minima of the pairing, which are no margin rules and come out one way in accounts of two rows with a contract each.
  *
  * Prints one line and gives exit status 0; or what is wrong, and 1. For Linux on x86-64.
  */
@@ -56,11 +58,11 @@ static int try_account(const struct class *c, const struct account *a, int is_fi
         *first = (struct first){*a, s};
     if (s.count == first->steps.count && s.hash == first->steps.hash)
         return 1;
-    failed(c, "the steps part");
+    failed(c, "the steps differ");
     print_account(&first->account);
     printf("  and\n");
     print_account(a);
-    print_parting(&first->account, a);
+    print_difference(&first->account, a);
     return 0;
 }
 
@@ -113,7 +115,7 @@ int main(void)
         printf("same steps: %" PRIu32 " of %" PRIu32 " classes failed\n", wrong, classes);
         return 1;
     }
-    printf("same steps: %" PRIu32 " classes, %" PRIu64 " calls, every comparison both ways, the same steps in each class\n",
+    printf("same steps: %" PRIu32 " classes, %" PRIu64 " calls, every outcome that a class can have, the same steps in each class\n",
            classes, calls);
     return 0;
 }

@@ -38,7 +38,7 @@ static int64_t plain_larger(int64_t a, int64_t b)
     return a > b ? a : b;
 }
 
-/* The largest of three. Which two are compared first is the engine's affair, so that every number is compared with each
+/* The largest of three. Which two the engine compares first is left open, so that every number is compared with each
  * other one and with the larger of the other two: six comparisons from the first one on. */
 static int64_t largest(struct outcomes *o, enum comparison first, int64_t a, int64_t b, int64_t c)
 {

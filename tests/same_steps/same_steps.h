@@ -29,8 +29,8 @@ struct account {
 
 /*
  * The comparisons of the maxima and minima in the rules. The price is H of a call and L of a put, or what the rules put in
- * its place for the barrier. PB and PEh count as below the price where they are nearer to the written strike's side: lower
- * than it for a call, higher for a put.
+ * its place for the barrier. PB and PEh count as below the price where they are what the minimum or the maximum gives: lower
+ * than the price for a call, higher for a put.
  */
 enum comparison {
     LIMITER_PRICE, /* PB against the price */
@@ -104,6 +104,6 @@ int choose(const struct class *c, const struct outcomes *shown, struct outcomes 
 /* calls.c: the calls of the library. */
 int step_account(const struct account *a, struct steps *s);
 void print_account(const struct account *a);
-void print_parting(const struct account *a, const struct account *b);
+void print_difference(const struct account *a, const struct account *b);
 
 #endif

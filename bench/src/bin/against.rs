@@ -43,14 +43,14 @@ fn times(rounds: usize, files: &[Vec<u8>], programs: [impl Fn(&[u8]); 2]) -> [f6
 /// Measures the margins of all files. One list is lent again and again, as in a run over many accounts.
 fn margin_row(rounds: usize, name: &str, files: &[Vec<u8>]) {
     let same = files.iter().map(|file| margins(file)).all(|[earlier, today]| earlier == today);
-    let pairs = files.iter().map(|file| pairs_in(&margins(file)[1].1)).sum();
+    let pairs: usize = files.iter().map(|file| pairs_in(&margins(file)[1].1)).sum();
     let list = &RefCell::new(EMPTY);
     let programs = MARGINS.map(|margin| {
         move |file: &[u8]| {
             black_box(margin(file, &mut *list.borrow_mut()));
         }
     });
-    print_row(name, pairs, times(rounds, files, programs), same);
+    print_row(&format!("{name} | {pairs}"), times(rounds, files, programs), same);
 }
 
 /// Measures the amount of the first row of all files.
@@ -62,20 +62,21 @@ fn amount_row(rounds: usize, name: &str, files: &[Vec<u8>]) {
             black_box(amount(file, black_box(0)));
         }
     });
-    print_row(name, 0, times(rounds, files, programs), same);
+    print_row(name, times(rounds, files, programs), same);
 }
 
-fn print_heading(title: &str) {
+fn print_heading(title: &str, columns: &[&str]) {
     println!("\n### {title}\n");
-    println!("| shape | pairs | earlier | today | today / earlier | same answer |");
-    println!("|---|---|---|---|---|---|");
+    let columns = [columns, &["earlier", "today", "today / earlier", "same answer"]].concat();
+    println!("| {} |", columns.join(" | "));
+    println!("|{}", "---|".repeat(columns.len()));
 }
 
-fn print_row(name: &str, pairs: usize, [earlier, today]: [f64; 2], same: bool) {
+fn print_row(first_columns: &str, [earlier, today]: [f64; 2], same: bool) {
     let ratio = today / earlier;
     let [earlier, today] = [earlier, today].map(with_decimals);
     let same = if same { "yes" } else { "no" };
-    println!("| {name} | {pairs} | {earlier} | {today} | {ratio:.2} | {same} |");
+    println!("| {first_columns} | {earlier} | {today} | {ratio:.2} | {same} |");
 }
 
 fn with_decimals(time: f64) -> String {
@@ -84,17 +85,24 @@ fn with_decimals(time: f64) -> String {
 }
 
 fn shape_table(rounds: usize, size: u32) {
-    print_heading(&format!("{size} rows"));
+    print_heading(&format!("{size} rows"), &["shape", "pairs"]);
     for shape in &SHAPES {
         margin_row(rounds, shape.name, &[account(shape, size)]);
     }
 }
 
+/// Accounts of 2 to 8 rows, one after another.
 fn small_table(rounds: usize) {
-    print_heading("Many small accounts");
-    margin_row(rounds, "small accounts, one after another", &small_accounts());
+    print_heading("Small accounts", &["accounts", "pairs"]);
+    let files = small_accounts();
+    margin_row(rounds, &files.len().to_string(), &files);
+}
+
+/// The amounts of written rows, one after another.
+fn amount_table(rounds: usize) {
+    print_heading("Single positions", &["barrier"]);
     for (name, kinds) in KINDS {
-        amount_row(rounds, &format!("single positions, {name}"), &single_positions(kinds));
+        amount_row(rounds, name, &single_positions(kinds));
     }
 }
 
@@ -105,4 +113,5 @@ fn main() {
         shape_table(rounds, size);
     }
     small_table(rounds);
+    amount_table(rounds);
 }

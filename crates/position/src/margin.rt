@@ -9,10 +9,12 @@ use crate::quantities::worst_price;
 use numbers::fine_units;
 use numbers::larger;
 use numbers::product;
+use numbers::smaller;
 use rules::Barrier;
 use rules::Series;
 use rules::Terms;
 ghost use Prim.Native.Nat.{max};
+ghost use mathlib.Core.Bool.{cond};
 ghost use mathlib.Core.Path.{_≡_};
 ghost use Rattle.rules.proofs.Mirror.{bare, most, rule, worst};
 ghost use Rattle.rules.specs.OnePosition.{rebate, unitBy};
@@ -73,28 +75,32 @@ fn down_in(b: u32, s: Series, t: Terms) -> u64
     most_charge(s, t, low, product(b, s.fa))
 }
 
-// Up-and-out at b: out of reach, or no price above b is paid on.
+// Of a knock-out that is out of reach max(MM; payoff), else max(MM; REB; payoff), over the prices from low to high.
+fn out_charge(unreachable: bool, s: Series, t: Terms, low: u64, high: u64) -> u64
+    ensures { λ r. ⌜ r ≡ cond unreachable (bare (s .option) s t (worst (s .option) low high)) (most (s .option) s t (worst (s .option) low high)) ⌝ }
+{
+    if unreachable {
+        return bare_charge(s, t, low, high);
+    }
+    most_charge(s, t, low, high)
+}
+
+// Up-and-out at b: no price above b is paid on.
 fn up_out(b: u32, s: Series, t: Terms) -> u64
     ensures { λ r. ⌜ r ≡ rule (s .option) (UpOut b) s t ⌝ }
 {
     let high = high_price(s);
     let barrier = fine_units(b);
-    if high < barrier {
-        return bare_charge(s, t, low_price(s), high);
-    }
-    most_charge(s, t, low_price(s), barrier)
+    out_charge(high < barrier, s, t, low_price(s), smaller(high, barrier))
 }
 
-// Down-and-out at b: out of reach, or no price below b is paid on.
+// Down-and-out at b: no price below b is paid on.
 fn down_out(b: u32, s: Series, t: Terms) -> u64
     ensures { λ r. ⌜ r ≡ rule (s .option) (DownOut b) s t ⌝ }
 {
     let low = low_price(s);
     let barrier = fine_units(b);
-    if barrier < low {
-        return bare_charge(s, t, low, high_price(s));
-    }
-    most_charge(s, t, barrier, high_price(s))
+    out_charge(barrier < low, s, t, larger(barrier, low), high_price(s))
 }
 
 // The rule of a barrier, of a normalised position.

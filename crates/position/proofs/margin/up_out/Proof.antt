@@ -1,7 +1,10 @@
-use Rattle.position.proofs.Picks.{pick-less, pick-more}
+use Rattle.position.proofs.Picks.{at-smaller}
 use Rattle.position.proofs.margin.up_out.Statement.{statement}
 use Rattle.position.proofs.margin.up_out.Tie as tie
+use Rattle.rules.proofs.Mirror.{bare, most, worst}
+use Rattle.rules.specs.Quantities.{fine, high, low}
 use borrow.Author.Needs.{needs}
+use mathlib.Core.Path.{_∙_}
 
 high-price-requires : tie.Need-high-price-requires
 high-price-requires c κs = search needs
@@ -12,20 +15,14 @@ fine-units-requires c κs = search needs
 low-price-requires : tie.Need-low-price-requires
 low-price-requires c κs = search needs
 
-bare-charge-requires : tie.Need-bare-charge-requires
-bare-charge-requires c κs = search needs
+smaller-requires : tie.Need-smaller-requires
+smaller-requires c κs = search needs
+
+out-charge-requires : tie.Need-out-charge-requires
+out-charge-requires c κs = search needs
 
 returns : tie.Need-returns
-returns c = pick-less _ _ _ _ _ (rw (c .before .before .before .before .high-price .ensures, c .before .before .before .fine-units .ensures) at (c .before .before .if1 .taken)) (rw (c .before .low-price .ensures, c .before .before .before .before .high-price .ensures) at (c .bare-charge .ensures))
-
-low-price-requires-2 : tie.Need-low-price-requires-2
-low-price-requires-2 c κs = search needs
-
-most-charge-requires : tie.Need-most-charge-requires
-most-charge-requires c κs = search needs
-
-returns-2 : tie.Need-returns-2
-returns-2 c = pick-more _ _ _ _ _ (rw (c .before .before .before .before .high-price .ensures, c .before .before .before .fine-units .ensures) at (c .before .before .if1 .left)) (rw (c .before .low-price2 .ensures, c .before .before .before .fine-units .ensures) at (c .most-charge .ensures))
+returns c = (rw (c .before .smaller .ensures, c .before .before .low-price .ensures, c .before .before .before .fine-units .ensures, c .before .before .before .before .high-price .ensures) at (c .out-charge .ensures)) ∙ at-smaller (λ x. bare ((c .before .before .before .before .before .args .s) .option) (c .before .before .before .before .before .args .s) (c .before .before .before .before .before .args .t) (worst ((c .before .before .before .before .before .args .s) .option) (low (c .before .before .before .before .before .args .s)) x)) (λ x. most ((c .before .before .before .before .before .args .s) .option) (c .before .before .before .before .before .args .s) (c .before .before .before .before .before .args .t) (worst ((c .before .before .before .before .before .args .s) .option) (low (c .before .before .before .before .before .args .s)) x)) (high (c .before .before .before .before .before .args .s)) (fine (c .before .before .before .before .before .args .b))
 
 pub up-out-spec : {M : Type 1} → statement M
 up-out-spec =
@@ -34,8 +31,6 @@ up-out-spec =
     high-price-requires
     fine-units-requires
     low-price-requires
-    bare-charge-requires
-    returns
-    low-price-requires-2
-    most-charge-requires
-    returns-2)
+    smaller-requires
+    out-charge-requires
+    returns)
