@@ -26,7 +26,7 @@ pub fn smaller(a: u64, b: u64) -> u64
     chosen(a <= b, a, b)
 }
 
-// max(0; a − b): what the larger of the two is above b.
+// max(0; a − b): by how much the larger of the two is above b.
 pub fn less(a: u64, b: u64) -> u64
     ensures { λ r. ⌜ r ≡ a - b ⌝ }
 {
