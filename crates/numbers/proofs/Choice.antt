@@ -20,16 +20,16 @@ pub choice-fits : (test : Bool) (a b n : ℕ) → a < n → b < n → a * boolBy
 choice-fits true a b n x y = omega arith
 choice-fits false a b n x y = omega arith
 
-pub larger : (a b : ℕ) → cond (leb b a) a b ≡ max a b
-larger a b = go (leb b a) refl
+-- One number in both cases of a test of the order, by what it is in each.
+in-both : (a b x y m : ℕ) → (a ≤ b → x ≡ m) → (b < a → y ≡ m) → cond (leb a b) x y ≡ m
+in-both a b x y m ordered turned = go (leb a b) refl
   where
-    go : (t : Bool) → leb b a ≡ t → cond t a b ≡ max a b
-    go true e = omega (arith, leb-true b a e)
-    go false e = omega (arith, leb-false b a e)
+    go : (t : Bool) → leb a b ≡ t → cond t x y ≡ m
+    go true e = ordered (leb-true a b e)
+    go false e = turned (leb-false a b e)
+
+pub larger : (a b : ℕ) → cond (leb b a) a b ≡ max a b
+larger a b = in-both b a a b (max a b) (λ h. omega arith) (λ h. omega arith)
 
 pub smaller : (a b : ℕ) → cond (leb a b) a b ≡ min a b
-smaller a b = go (leb a b) refl
-  where
-    go : (t : Bool) → leb a b ≡ t → cond t a b ≡ min a b
-    go true e = omega (arith, leb-true a b e)
-    go false e = omega (arith, leb-false a b e)
+smaller a b = in-both a b a b (min a b) (λ h. omega arith) (λ h. omega arith)
