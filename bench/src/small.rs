@@ -10,7 +10,7 @@ use reference::random::Random;
 use reference::sample::{sample_account, Shape};
 
 /// So many that a processor cannot predict which number is the larger from what it met before. An AMD EPYC still can with
-/// 256 small accounts, or 4,096 single positions of one kind; with 16,384 positions one takes as long as with these.
+/// 256 small accounts, or 4,096 single positions of one kind; with 16,384 positions one takes nearly as long as with these.
 const SMALL_ACCOUNTS: usize = 4_096;
 const SINGLE_POSITIONS: usize = 32_768;
 
