@@ -29,7 +29,9 @@ pub fn wrong_terms(s: usize, r: PositionRow) -> bool
     (s <= (r.series as usize))
         | (1 < r.side)
         | (4 < r.kind)
-        | ((15 < r.flags) | (flags.knockedIn & ((r.kind < 1) | (2 < r.kind))))
+        | ((31 < r.flags)
+            | (flags.knockedIn & ((r.kind < 1) | (2 < r.kind)))
+            | (flags.knockedOut & ((r.kind < 3) | (4 < r.kind))))
         | !(r.spare == 0)
 }
 
@@ -63,7 +65,7 @@ pub fn wrong_barrier_side(pv: u32, r: PositionRow) -> bool
     ensures { λ t. ⌜ t ≡ wrongBarrierSide pv r ⌝ }
 {
     let flags = flags_of(r.flags);
-    !flags.knockedIn
+    (!flags.knockedIn & !flags.knockedOut)
         & ((((r.kind == 1) | (r.kind == 3)) & (r.price <= pv))
             | (((r.kind == 2) | (r.kind == 4)) & (pv <= r.price)))
 }

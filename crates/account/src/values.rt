@@ -51,6 +51,7 @@ pub fn flags_of(n: u32) -> Flags
         limited: n / 2 % 2 == 1,
         european: n / 4 % 2 == 1,
         beforeAnnex: n / 8 % 2 == 1,
+        knockedOut: n / 16 % 2 == 1,
     }
 }
 

@@ -10,7 +10,7 @@ use Rattle.lanes.proofs.KeyLaws.{place-most}
 use Rattle.lanes.specs.Keys.{InRange, barrierFamily, family, fromOf, groupOf, last, placeOf, topOf}
 use Rattle.lanes.specs.Marks.{markFrom, markGroup, markOf, markPlace, markTop, roleOf, sideRole}
 use Rattle.rules.specs.OnePosition.{normal}
-use Rattle.rules.specs.Pairs.{europeanOrBeforeAnnex}
+use Rattle.rules.specs.Pairs.{mayBePaired}
 use Rattle.rules.specs.declared.Position.{Position}
 use Rattle.rules.specs.declared.Side.{Side}
 use Rattle.rules.specs.declared.Side.the-variants.{Held, Written}
@@ -27,16 +27,16 @@ side-most false Held = omega arith
 side-most fits Written = omega arith
 
 pub role-most : (fits : Bool) (p : Position) → roleOf fits p ≤ 2
-role-most fits p = go (europeanOrBeforeAnnex p)
+role-most fits p = go (mayBePaired p)
   where
     go : (t : Bool) → cond t (sideRole fits (p .side)) 2 ≤ 2
     go true = side-most fits (p .side)
     go false = omega arith
 
-pub role-pairs : (fits : Bool) (p : Position) (x : ℕ) → europeanOrBeforeAnnex p ≡ true → x ≡ sideRole fits (p .side) → x ≡ roleOf fits p
+pub role-pairs : (fits : Bool) (p : Position) (x : ℕ) → mayBePaired p ≡ true → x ≡ sideRole fits (p .side) → x ≡ roleOf fits p
 role-pairs fits p x e q = rw e q
 
-pub role-none : (fits : Bool) (p : Position) → europeanOrBeforeAnnex p ≡ false → 2 ≡ roleOf fits p
+pub role-none : (fits : Bool) (p : Position) → mayBePaired p ≡ false → 2 ≡ roleOf fits p
 role-none fits p e = rw e refl
 
 -- The top, return by return.

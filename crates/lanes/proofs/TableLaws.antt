@@ -20,7 +20,7 @@ use Rattle.numbers.proofs.Order.{newest, split}
 use Rattle.numbers.specs.Lists.{nth}
 use Rattle.rules.specs.File.{Account, seriesOfRow}
 use Rattle.rules.specs.OnePosition.{unitMargin}
-use Rattle.rules.specs.Pairs.{europeanOrBeforeAnnex, isHeld, isWritten}
+use Rattle.rules.specs.Pairs.{isHeld, isWritten, mayBePaired}
 use Rattle.rules.specs.declared.Position.{Position}
 use Rattle.rules.specs.declared.Side.{Side}
 use Rattle.rules.specs.declared.Side.the-variants.{Held, Written}
@@ -152,7 +152,7 @@ module _ (table keys written was now : List ℕ) (n m p : ℕ) (few : p ≤ 256)
 
 -- The marks of an account's rows.
 role-held : (fits : Bool) (p : Position) → eqb (roleOf fits p) 0 ≡ (pairsAsHeld p && fits)
-role-held fits p = go fits (europeanOrBeforeAnnex p) (p .side)
+role-held fits p = go fits (mayBePaired p) (p .side)
   where
     go : (m t : Bool) (s : Side) → eqb (cond t (sideRole m s) 2) 0 ≡ (isHeld s && t && m)
     go true true Held = refl
@@ -163,7 +163,7 @@ role-held fits p = go fits (europeanOrBeforeAnnex p) (p .side)
 
 -- A row that has links is held or written in a pair.
 role-linked : (fits : Bool) (p : Position) → (pairsAsHeld p && fits || pairsAsWritten p) ≡ true → roleOf fits p < 2
-role-linked fits p = go fits (europeanOrBeforeAnnex p) (p .side)
+role-linked fits p = go fits (mayBePaired p) (p .side)
   where
     go : (m t : Bool) (s : Side) → (isHeld s && t && m || isWritten s && t) ≡ true → cond t (sideRole m s) 2 < 2
     go true true Held e = omega arith

@@ -11,7 +11,7 @@ use Rattle.lanes.specs.Limiters.{limiterFits}
 use Rattle.numbers.specs.Lists.{nth}
 use Rattle.rules.specs.File.{Account}
 use Rattle.rules.specs.Limits.{mostPositions}
-use Rattle.rules.specs.Pairs.{europeanOrBeforeAnnex, isHeld, isWritten}
+use Rattle.rules.specs.Pairs.{isHeld, isWritten, mayBePaired}
 use Rattle.rules.specs.OnePosition.{normal}
 use Rattle.rules.specs.declared.Barrier.{Barrier}
 use Rattle.rules.specs.declared.Barrier.the-variants.{NoBarrier, UpIn, DownIn, UpOut, DownOut}
@@ -44,11 +44,11 @@ last = 281_474_976_710_656
 
 -- A held row that is European or opened before the annex: no other row is the held row of a pair.
 abbrev pub pairsAsHeld : Position → Bool
-pairsAsHeld p = isHeld (p .side) && europeanOrBeforeAnnex p
+pairsAsHeld p = isHeld (p .side) && mayBePaired p
 
 -- A written row that is European or opened before the annex: no other row is the written row of a pair.
 abbrev pub pairsAsWritten : Position → Bool
-pairsAsWritten p = isWritten (p .side) && europeanOrBeforeAnnex p
+pairsAsWritten p = isWritten (p .side) && mayBePaired p
 
 -- The held rows in the lanes. One whose limiter bars its pair with every written row of its series is left out.
 abbrev pub inLanes : Account → ℕ → Bool

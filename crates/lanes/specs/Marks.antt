@@ -13,7 +13,7 @@ use Rattle.numbers.specs.Lists.{nth}
 use Rattle.rules.specs.File.{Account, accountOf, seriesOfRow}
 use Rattle.rules.specs.Limits.{mostPositions, mostSeries}
 use Rattle.rules.specs.OnePosition.{unitMargin}
-use Rattle.rules.specs.Pairs.{europeanOrBeforeAnnex, isWritten}
+use Rattle.rules.specs.Pairs.{isWritten, mayBePaired}
 use Rattle.rules.specs.declared.Layout.{Layout}
 use Rattle.rules.specs.declared.Position.{Position}
 use Rattle.rules.specs.declared.Side.{Side}
@@ -26,7 +26,7 @@ sideRole fits Held = cond fits 0 2
 sideRole fits Written = 1
 
 abbrev pub roleOf : Bool → Position → ℕ
-roleOf fits p = cond (europeanOrBeforeAnnex p) (sideRole fits (p .side)) 2
+roleOf fits p = cond (mayBePaired p) (sideRole fits (p .side)) 2
 
 -- The mark of a row: its place, and its role where a key has the row.
 abbrev pub markOf : Bool → Position → ℕ

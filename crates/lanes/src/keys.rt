@@ -9,7 +9,7 @@ ghost use mathlib.Core.Bool.{cond};
 ghost use mathlib.Core.Path.{_≡_};
 ghost use Rattle.lanes.specs.Keys.{InRange, barrierFamily, family, last};
 ghost use Rattle.lanes.specs.Marks.{markFrom, markGroup, markOf, markPlace, markTop, roleOf, sideRole};
-ghost use Rattle.rules.specs.Pairs.{europeanOrBeforeAnnex};
+ghost use Rattle.rules.specs.Pairs.{mayBePaired};
 
 // What stands for no key, no rank and no distance.
 pub const NONE: u64 = 1_152_921_504_606_846_976;
@@ -53,11 +53,11 @@ fn side_role(fits: bool, side: Side) -> u64
     }
 }
 
-fn european_or_before_annex(p: Position) -> bool
-    ensures { λ r. ⌜ r ≡ europeanOrBeforeAnnex p ⌝ }
+fn may_be_paired(p: Position) -> bool
+    ensures { λ r. ⌜ r ≡ mayBePaired p ⌝ }
 {
     let flags = p.flags;
-    flags.european | flags.beforeAnnex
+    (flags.european | flags.beforeAnnex) & !flags.knockedOut
 }
 
 // 0 for a held row whose limiter fits, which is no nearer than some written row's of its series, 1 for a written row, 2 for
@@ -65,7 +65,7 @@ fn european_or_before_annex(p: Position) -> bool
 fn role_of(fits: bool, p: Position) -> u64
     ensures { λ r. ⌜ (r ≡ roleOf fits p) × (r ≤ 2) ⌝ }
 {
-    if european_or_before_annex(p) {
+    if may_be_paired(p) {
         let side = p.side;
         return side_role(fits, side);
     }

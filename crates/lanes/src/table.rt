@@ -8,7 +8,6 @@ use crate::links::fill_links;
 use account::lookup::position_at;
 use account::lookup::series_of_position;
 use position::margin::unit_margin;
-use position::quantities::normalised;
 use rules::Layout;
 use rules::MOST_SERIES;
 use rules::Position;
@@ -29,7 +28,7 @@ fn unit_of_row(file: &[u8], l: Layout, p: Position) -> u64
     let side = p.side;
     match side {
         Side::Held => 0,
-        Side::Written => unit_margin(series_of_position(file, l, p), normalised(p)),
+        Side::Written => unit_margin(series_of_position(file, l, p), p),
     }
 }
 

@@ -18,7 +18,7 @@ use Rattle.pairing.specs.Standings.{Alike}
 use Rattle.pairing.specs.declared.Standing.{Standing}
 use Rattle.rules.proofs.Tests.{both}
 use Rattle.rules.specs.File.{Account}
-use Rattle.rules.specs.Pairs.{europeanOrBeforeAnnex, isHeld, isWritten}
+use Rattle.rules.specs.Pairs.{isHeld, isWritten, mayBePaired}
 
 module _ (a : Account) (ok : Ranged a) (left : List ℕ) (w : ℕ) (lw : w < a .positions) where
   -- The row at a cursor is in the lanes.
@@ -38,9 +38,9 @@ module _ (a : Account) (ok : Ranged a) (left : List ℕ) (w : ℕ) (lw : w < a .
   pub cursor-meets : (o u : ℕ) → Cursor a left o w u → u < top a o w → pairsAsWritten (a .positionAt w) ≡ true → Meets a w (u % 256)
   cursor-meets o u c t written =
       let h = u % 256 in
-      let x = both (isWritten (a .positionAt w .side)) (europeanOrBeforeAnnex (a .positionAt w)) written in
+      let x = both (isWritten (a .positionAt w .side)) (mayBePaired (a .positionAt w)) written in
       let z = both (pairsAsHeld (a .positionAt h)) (limiterFits a h) (cursor-lane o u c t) in
-      let y = both (isHeld (a .positionAt h .side)) (europeanOrBeforeAnnex (a .positionAt h)) (z .0) in
+      let y = both (isHeld (a .positionAt h .side)) (mayBePaired (a .positionAt h)) (z .0) in
       let series = cursor-group o u c t .0 in
       rw (x .0, x .1, y .0, y .1, eq-eqb (a .positionAt w .series) (a .positionAt h .series) series) refl
 

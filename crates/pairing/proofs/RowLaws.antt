@@ -23,7 +23,7 @@ use Rattle.pairing.specs.declared.Standing.{Standing}
 use Rattle.rules.proofs.MayPair.{may-pairable}
 use Rattle.rules.proofs.Tests.{both}
 use Rattle.rules.specs.File.{accountOf}
-use Rattle.rules.specs.Pairs.{europeanOrBeforeAnnex, isWritten}
+use Rattle.rules.specs.Pairs.{isWritten, mayBePaired}
 use Rattle.rules.specs.declared.Layout.{Layout}
 use Rattle.rules.specs.declared.Position.{Position}
 use Rattle.rules.specs.declared.Side.{Side}
@@ -35,9 +35,9 @@ pub record WrittenRow (p : Position) : Type 0 where
   pub outside : pairsAsHeld p ≡ false
 
 pub role-written : (fits : Bool) (p : Position) → roleOf fits p ≡ 1 → WrittenRow p
-role-written fits p = go fits (p .side) (europeanOrBeforeAnnex p) refl refl
+role-written fits p = go fits (p .side) (mayBePaired p) refl refl
   where
-    go : (m : Bool) (s : Side) (t : Bool) → p .side ≡ s → europeanOrBeforeAnnex p ≡ t → cond t (sideRole m s) 2 ≡ 1 → WrittenRow p
+    go : (m : Bool) (s : Side) (t : Bool) → p .side ≡ s → mayBePaired p ≡ t → cond t (sideRole m s) 2 ≡ 1 → WrittenRow p
     go true Held true es et e = absurd (omega arith)
     go false Held true es et e = absurd (omega arith)
     go m Held false es et e = absurd (omega arith)
@@ -45,7 +45,7 @@ role-written fits p = go fits (p .side) (europeanOrBeforeAnnex p) refl refl
     go m Written false es et e = absurd (omega arith)
 
 pub role-other : (fits : Bool) (p : Position) → (roleOf fits p ≡ 1 → ⊥) → pairsAsWritten p ≡ true → ⊥
-role-other fits p = go (p .side) (europeanOrBeforeAnnex p)
+role-other fits p = go (p .side) (mayBePaired p)
   where
     go : (s : Side) (t : Bool) → (cond t (sideRole fits s) 2 ≡ 1 → ⊥) → (isWritten s && t) ≡ true → ⊥
     go Held t n e = true≢false (sym e)

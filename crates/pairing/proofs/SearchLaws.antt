@@ -25,7 +25,7 @@ use Rattle.rules.proofs.PairOrder.{rank}
 use Rattle.rules.proofs.Tests.{both}
 use Rattle.rules.specs.File.{Account, accountOf, layout, seriesOfRow}
 use Rattle.rules.specs.OnePosition.{normal, unitMargin}
-use Rattle.rules.specs.Pairs.{bookOf, europeanOrBeforeAnnex, gapOf, isWritten, lowers, mayOf}
+use Rattle.rules.specs.Pairs.{bookOf, gapOf, isWritten, lowers, mayBePaired, mayOf}
 use Rattle.rules.specs.Spreads.{spreadBetween, unitSpread}
 use Rattle.rules.specs.declared.Layout.{Layout}
 use Rattle.rules.specs.declared.Position.{Position}
@@ -134,7 +134,7 @@ pub reading : (b : List ℕ) (l : Layout) (left table : List ℕ) (w : ℕ) (row
     → p ≡ accountOf b l .positionAt w → t ≡ normal p → s ≡ accountOf b l .seriesAt (p .series)
     → Reading (accountOf b l) (record { row = w; terms = t; series = s; unit = nth table (768 + w) })
 reading b l left table w row written p t s ep et es =
-    let sides = both (isWritten (accountOf b l .positionAt w .side)) (europeanOrBeforeAnnex (accountOf b l .positionAt w)) written in
+    let sides = both (isWritten (accountOf b l .positionAt w .side)) (mayBePaired (accountOf b l .positionAt w)) written in
     record {
       terms-is = et ∙ ap normal ep;
       series-is = es ∙ ap (λ (x : Position). accountOf b l .seriesAt (x .series)) ep;

@@ -17,7 +17,7 @@ use Rattle.rules.specs.File.{Account, accountOf, seriesOfRow}
 use Rattle.rules.specs.Limits.{mostPositions}
 use Rattle.rules.specs.Lines.{spreadUnit}
 use Rattle.rules.specs.OnePosition.{normal, unitMargin}
-use Rattle.rules.specs.Pairs.{bookOf, europeanOrBeforeAnnex, isHeld, isWritten, mayOf}
+use Rattle.rules.specs.Pairs.{bookOf, isHeld, isWritten, mayBePaired, mayOf}
 use Rattle.rules.specs.Spreads.{unitSpread}
 use Rattle.rules.specs.declared.Layout.{Layout}
 use Rattle.rules.specs.declared.Position.{Position}
@@ -50,7 +50,7 @@ meet w h =
     isWritten (w .side)
     && isHeld (h .side)
     && eqb (w .series) (h .series)
-    && (europeanOrBeforeAnnex w && europeanOrBeforeAnnex h)
+    && (mayBePaired w && mayBePaired h)
 
 abbrev pub Meets : Account → ℕ → ℕ → Type 0
 Meets a w h = meet (a .positionAt w) (a .positionAt h) ≡ true

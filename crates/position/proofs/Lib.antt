@@ -1,4 +1,3 @@
 pub mod Picks
 pub mod RowsFit
 pub mod Sign
-pub mod TermsUnit

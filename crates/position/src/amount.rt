@@ -1,6 +1,5 @@
 // The amount of one position of a file.
 use crate::margin::unit_margin;
-use crate::quantities::normalised;
 use account::lookup::position_at;
 use account::lookup::series_of_position;
 use account::reader::read_file;
@@ -36,7 +35,7 @@ pub fn amount_by_side(s: Series, p: Position) -> u64
     let side = p.side;
     match side {
         Side::Held => premium_amount(s, p),
-        Side::Written => amount(unit_margin(s, normalised(p)), s.m, p.q as u64),
+        Side::Written => amount(unit_margin(s, p), s.m, p.q as u64),
     }
 }
 

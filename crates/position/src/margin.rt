@@ -3,6 +3,7 @@
 use crate::quantities::high_price;
 use crate::quantities::low_price;
 use crate::quantities::minimum_margin;
+use crate::quantities::normalised;
 use crate::quantities::payoff_at;
 use crate::quantities::rebate_of;
 use crate::quantities::worst_price;
@@ -11,13 +12,14 @@ use numbers::larger;
 use numbers::product;
 use numbers::smaller;
 use rules::Barrier;
+use rules::Position;
 use rules::Series;
 use rules::Terms;
 ghost use Prim.Native.Nat.{max};
 ghost use mathlib.Core.Bool.{cond};
 ghost use mathlib.Core.Path.{_≡_};
 ghost use Rattle.rules.proofs.Mirror.{bare, most, rule, worst};
-ghost use Rattle.rules.specs.OnePosition.{rebate, unitBy};
+ghost use Rattle.rules.specs.OnePosition.{rebate, unitMargin};
 ghost use Rattle.rules.specs.Quantities.{minimum};
 ghost use Rattle.rules.specs.declared.Barrier.the-variants.{DownIn, DownOut, UpIn, UpOut};
 
@@ -116,10 +118,15 @@ fn unit_by(barrier: Barrier, s: Series, t: Terms) -> u64
     }
 }
 
-// The unit margin of a written row, in fine units, by its terms after flag 1 is applied.
-pub fn unit_margin(s: Series, t: Terms) -> u64
-    ensures { λ r. ⌜ r ≡ unitBy (s .option) (t .barrier) s t ⌝ }
+// The unit margin of a written row, in fine units: its rebate where it has flag 16, else by its barrier.
+pub fn unit_margin(s: Series, p: Position) -> u64
+    ensures { λ r. ⌜ r ≡ unitMargin s p ⌝ }
 {
+    let t = normalised(p);
+    let flags = p.flags;
+    if flags.knockedOut {
+        return rebate_of(t);
+    }
     let barrier = t.barrier;
     unit_by(barrier, s, t)
 }

@@ -21,5 +21,7 @@ pub fn refusal_number(why: Refusal) -> u32
         Refusal::ListTooShort => 12,
         Refusal::RowAskedFor => 13,
         Refusal::FactorsAskedFor => 14,
+        Refusal::SeriesAskedFor => 16,
+        Refusal::DayPrices => 17,
     }
 }

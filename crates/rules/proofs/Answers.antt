@@ -27,23 +27,26 @@ use Rattle.rules.specs.declared.FileRead.the-variants.{Accepted, Refused
 use Rattle.rules.specs.declared.Line.{Line}
 use Rattle.rules.specs.declared.MarginAnswer.the-variants.{NoTotal, Total}
 use Rattle.rules.specs.declared.Refusal.{Refusal}
-use Rattle.rules.specs.declared.Refusal.the-variants.{FileSize, Trailer, Distance, SeriesRange, SeriesType, PositionTerms, PositionRange, LimiterPrice, BarrierPrice, BarrierSide, ListTooShort, RowAskedFor, FactorsAskedFor}
+use Rattle.rules.specs.declared.Refusal.the-variants.{FileSize, Trailer, Distance, SeriesRange, SeriesType, PositionTerms, PositionRange, LimiterPrice, BarrierPrice, BarrierSide, ListTooShort, RowAskedFor, FactorsAskedFor, SeriesAskedFor, DayPrices}
 
--- Every refusal's number is 1 to 14, so that 0 and amounts are never taken for one; and none is 3, which is withdrawn.
-pub number-range : (w : Refusal) → (1 ≤ number w) × (number w ≤ 14) × (number w ≡ 3 → ⊥)
-number-range FileSize = (omega arith, omega arith, λ (q : number FileSize ≡ 3). omega arith)
-number-range Trailer = (omega arith, omega arith, λ (q : number Trailer ≡ 3). omega arith)
-number-range Distance = (omega arith, omega arith, λ (q : number Distance ≡ 3). omega arith)
-number-range SeriesRange = (omega arith, omega arith, λ (q : number SeriesRange ≡ 3). omega arith)
-number-range SeriesType = (omega arith, omega arith, λ (q : number SeriesType ≡ 3). omega arith)
-number-range PositionTerms = (omega arith, omega arith, λ (q : number PositionTerms ≡ 3). omega arith)
-number-range PositionRange = (omega arith, omega arith, λ (q : number PositionRange ≡ 3). omega arith)
-number-range LimiterPrice = (omega arith, omega arith, λ (q : number LimiterPrice ≡ 3). omega arith)
-number-range BarrierPrice = (omega arith, omega arith, λ (q : number BarrierPrice ≡ 3). omega arith)
-number-range BarrierSide = (omega arith, omega arith, λ (q : number BarrierSide ≡ 3). omega arith)
-number-range ListTooShort = (omega arith, omega arith, λ (q : number ListTooShort ≡ 3). omega arith)
-number-range RowAskedFor = (omega arith, omega arith, λ (q : number RowAskedFor ≡ 3). omega arith)
-number-range FactorsAskedFor = (omega arith, omega arith, λ (q : number FactorsAskedFor ≡ 3). omega arith)
+-- Every refusal's number is 1 to 17, so that 0 and amounts are never taken for one; none is 3, which is withdrawn, and none
+-- is 15, which no request gives.
+pub number-range : (w : Refusal) → (1 ≤ number w) × (number w ≤ 17) × (number w ≡ 3 → ⊥) × (number w ≡ 15 → ⊥)
+number-range FileSize = (omega arith, omega arith, λ (q : number FileSize ≡ 3). omega arith, λ (q : number FileSize ≡ 15). omega arith)
+number-range Trailer = (omega arith, omega arith, λ (q : number Trailer ≡ 3). omega arith, λ (q : number Trailer ≡ 15). omega arith)
+number-range Distance = (omega arith, omega arith, λ (q : number Distance ≡ 3). omega arith, λ (q : number Distance ≡ 15). omega arith)
+number-range SeriesRange = (omega arith, omega arith, λ (q : number SeriesRange ≡ 3). omega arith, λ (q : number SeriesRange ≡ 15). omega arith)
+number-range SeriesType = (omega arith, omega arith, λ (q : number SeriesType ≡ 3). omega arith, λ (q : number SeriesType ≡ 15). omega arith)
+number-range PositionTerms = (omega arith, omega arith, λ (q : number PositionTerms ≡ 3). omega arith, λ (q : number PositionTerms ≡ 15). omega arith)
+number-range PositionRange = (omega arith, omega arith, λ (q : number PositionRange ≡ 3). omega arith, λ (q : number PositionRange ≡ 15). omega arith)
+number-range LimiterPrice = (omega arith, omega arith, λ (q : number LimiterPrice ≡ 3). omega arith, λ (q : number LimiterPrice ≡ 15). omega arith)
+number-range BarrierPrice = (omega arith, omega arith, λ (q : number BarrierPrice ≡ 3). omega arith, λ (q : number BarrierPrice ≡ 15). omega arith)
+number-range BarrierSide = (omega arith, omega arith, λ (q : number BarrierSide ≡ 3). omega arith, λ (q : number BarrierSide ≡ 15). omega arith)
+number-range ListTooShort = (omega arith, omega arith, λ (q : number ListTooShort ≡ 3). omega arith, λ (q : number ListTooShort ≡ 15). omega arith)
+number-range RowAskedFor = (omega arith, omega arith, λ (q : number RowAskedFor ≡ 3). omega arith, λ (q : number RowAskedFor ≡ 15). omega arith)
+number-range FactorsAskedFor = (omega arith, omega arith, λ (q : number FactorsAskedFor ≡ 3). omega arith, λ (q : number FactorsAskedFor ≡ 15). omega arith)
+number-range SeriesAskedFor = (omega arith, omega arith, λ (q : number SeriesAskedFor ≡ 3). omega arith, λ (q : number SeriesAskedFor ≡ 15). omega arith)
+number-range DayPrices = (omega arith, omega arith, λ (q : number DayPrices ≡ 3). omega arith, λ (q : number DayPrices ≡ 15). omega arith)
 
 module _ (b : List ℕ) where
   -- The answer, and the lines given, by the reading.
@@ -56,10 +59,10 @@ module _ (b : List ℕ) where
   given-read n x r = ap (λ (y : FileRead). linesFor b y (marginForList b n y)) r
 
   -- The reading of a file that is accepted or refused.
-  accepted-read : (a : Account) → meaning b ≡ accepted a → (fileRead b ≡ Accepted (layout b)) × (a ≡ accountOf b (layout b))
+  pub accepted-read : (a : Account) → meaning b ≡ accepted a → (fileRead b ≡ Accepted (layout b)) × (a ≡ accountOf b (layout b))
   accepted-read a e = let k = accepted-within b a e in (within-read b (k .0), k .1)
 
-  refused-read : (k row : ℕ) → meaning b ≡ refused k row → (w : Refusal) × (number w ≡ k) × (fileRead b ≡ Refused w row)
+  pub refused-read : (k row : ℕ) → meaning b ≡ refused k row → (w : Refusal) × (number w ≡ k) × (fileRead b ≡ Refused w row)
   unfolding meaning
   refused-read k row e = go (fileRead b) refl
     where

@@ -11,7 +11,7 @@ use Rattle.rules.proofs.Mirror.{bare, charge, mirror, most, rule}
 use Rattle.rules.proofs.Tests.{cond-case, ltb-case}
 use Rattle.rules.specs.File.{flagsOf, limiterOf, positionOf, seriesOf, termsOf}
 use Rattle.rules.specs.Limits.{PositionWithin, SeriesWithin}
-use Rattle.rules.specs.OnePosition.{afterFlag1, limitOr, rebate, unitBy, unitMargin}
+use Rattle.rules.specs.OnePosition.{afterFlag1, limitOr, normal, rebate, unitBy, unitByFlag16, unitMargin}
 use Rattle.rules.specs.Quantities.{fine, high, low, minimum}
 use Rattle.rules.specs.declared.Barrier.{Barrier}
 use Rattle.rules.specs.declared.Barrier.the-variants.{NoBarrier, UpIn, DownIn, UpOut, DownOut}
@@ -79,8 +79,12 @@ module _ {n : ℕ} {k : SeriesRow} {r : PositionRow} (s : SeriesWithin k) (w : P
   -- A unit margin is at most 10^14, H at the largest PV and fa.
   pub unit-most : unitMargin (seriesOf k) (positionOf r) ≤ 100_000_000_000_000
   unfolding unitMargin
-  unit-most = by-flag (positionOf r .flags .knockedIn)
+  unit-most = by-flag-16 (positionOf r .flags .knockedOut)
     where
+      rebate-most : (t : Bool) → rebate (afterFlag1 t (termsOf r)) ≤ 100_000_000_000_000
+      rebate-most true = omega arith
+      rebate-most false = omega (arith, w .reb-most)
+
       by-flag : (t : Bool) → unitBy (seriesOf k .option) (afterFlag1 t (termsOf r) .barrier) (seriesOf k) (afterFlag1 t (termsOf r)) ≤ 100_000_000_000_000
       by-flag true =
           rw mirror
@@ -88,3 +92,7 @@ module _ {n : ℕ} {k : SeriesRow} {r : PositionRow} (s : SeriesWithin k) (w : P
       by-flag false =
           rw mirror
           (rule-most 100_000_000_000_000 (seriesOf k) (termsOf r) (omega (arith, minimum-most)) (omega (arith, w .reb-most)) (omega (arith, w .pe-most)) limit-most (seriesOf k .option) (termsOf r .barrier))
+
+      by-flag-16 : (t : Bool) → unitByFlag16 t (seriesOf k) (normal (positionOf r)) ≤ 100_000_000_000_000
+      by-flag-16 true = rebate-most (positionOf r .flags .knockedIn)
+      by-flag-16 false = by-flag (positionOf r .flags .knockedIn)

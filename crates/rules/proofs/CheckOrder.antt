@@ -10,6 +10,7 @@ use Rattle.rules.specs.OnePosition.{amountAnswer, positionAmount, unitMa
 use Rattle.rules.specs.Pairs.{along, leftAfter, madeAfter, mayOf, through}
 use Rattle.rules.specs.Refusals.{fileRead, matchedFault, meaning, positionRowFault, positionRows, refuse, refused, rows, seriesRowFault, seriesRows, trailerFault}
 use Rattle.rules.specs.Spreads.{unitSpread}
+use Rattle.rules.specs.Writing.{bytes4}
 use Rattle.rules.specs.declared.AmountAnswer.the-variants.{Amount, NoAmount}
 use Rattle.rules.specs.declared.Fault.the-variants.{Clean, Found}
 use Rattle.rules.specs.declared.FileRead.the-variants.{Accepted}
@@ -68,15 +69,27 @@ pub order :
     -- 11: barrier = PV; under flag 1 it is free
     × (positionRowFault 1 call (rowWith 1 4 10 0 3000 0) ≡ Found BarrierSide)
     × (positionRowFault 1 call (rowWith 1 5 10 0 3000 0) ≡ Clean)
+    -- 7: flag 16 on kinds 0, 1 and 2, and with flag 1 on kinds 2 and 3; a bit that is no flag
+    × (positionRowFault 1 call (rowWith 0 20 10 0 0 0) ≡ Found PositionTerms)
+    × (positionRowFault 1 call (rowWith 1 20 10 0 3500 0) ≡ Found PositionTerms)
+    × (positionRowFault 1 call (rowWith 2 20 10 0 2500 0) ≡ Found PositionTerms)
+    × (positionRowFault 1 call (rowWith 2 21 10 0 2500 0) ≡ Found PositionTerms)
+    × (positionRowFault 1 call (rowWith 3 21 10 0 3500 0) ≡ Found PositionTerms)
+    × (positionRowFault 1 call (rowWith 3 36 10 0 3500 0) ≡ Found PositionTerms)
+    -- 10 stays under flag 16
+    × (positionRowFault 1 call (rowWith 3 20 10 0 10_000_001 0) ≡ Found BarrierPrice)
+    -- 11: an out barrier = PV; under flag 16 it is free, on either side of PV
+    × (positionRowFault 1 call (rowWith 3 4 10 0 3000 0) ≡ Found BarrierSide)
+    × (positionRowFault 1 call (rowWith 3 20 10 0 3000 0) ≡ Clean)
+    × (positionRowFault 1 call (rowWith 3 20 10 0 2000 0) ≡ Clean)
+    × (positionRowFault 1 call (rowWith 4 20 10 0 4000 0) ≡ Clean)
 unfolding seriesRowFault positionRowFault matchedFault refuse
-order = (refl, refl, refl, refl, refl, refl, refl, refl, refl, refl, refl, refl)
+order =
+    (refl, refl, refl, refl, refl, refl, refl, refl, refl, refl, refl, refl, refl, refl, refl, refl, refl, refl, refl, refl, refl, refl, refl)
 
 -- Little-endian bytes.
 abbrev bytes2 : ℕ → List ℕ
 bytes2 n = n % 256 ∷ n / 256 % 256 ∷ []
-
-abbrev pub bytes4 : ℕ → List ℕ
-bytes4 n = n % 256 ∷ n / 256 % 256 ∷ n / 65_536 % 256 ∷ n / 16_777_216 % 256 ∷ []
 
 -- A call series row of the PV and last spare byte given.
 abbrev pub seriesBytes : ℕ → ℕ → List ℕ

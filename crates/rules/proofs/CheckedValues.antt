@@ -35,7 +35,7 @@ row side pe limiter barrier reb =
       series = 0;
       side = side;
       terms = record { pe = pe; limiter = limiter; barrier = barrier; reb = reb };
-      flags = record { knockedIn = false; limited = false; european = true; beforeAnnex = false };
+      flags = record { knockedIn = false; limited = false; european = true; beforeAnnex = false; knockedOut = false };
       q = 10;
       premium = 0;
     }

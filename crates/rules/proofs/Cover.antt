@@ -12,8 +12,8 @@ use Rattle.rules.proofs.Mirror.{charge, mirror, rule, worst}
 use Rattle.rules.proofs.Payoff.{paid-charged}
 use Rattle.rules.proofs.Tests.{ltb-case}
 use Rattle.rules.proofs.Touch.{In, down-missed, down-reached, down-rises, every-last, inside, up-falls, up-missed, up-reached}
-use Rattle.rules.specs.OnePosition.{normal, unitMargin}
-use Rattle.rules.specs.Paths.{Every, Prices, atOrAbove, atOrBelow, lastOr, paymentByBarrier, payment, payoffAt, touched}
+use Rattle.rules.specs.OnePosition.{normal, unitByFlag16, unitMargin}
+use Rattle.rules.specs.Paths.{Every, Prices, atOrAbove, atOrBelow, lastOr, paymentByBarrier, payment, paymentByFlag16, payoffAt, touched}
 use Rattle.rules.specs.Promises.{Covers}
 use Rattle.rules.specs.Quantities.{fine, high, low}
 use Rattle.rules.specs.declared.Barrier.{Barrier}
@@ -82,9 +82,13 @@ pub covers-long :
     → ((b : ℕ) → s .option ≡ Put → normal p .barrier ≡ UpIn b → s .fb ≤ 1_000_000) → Covers s p (unitMargin s p)
 unfolding payment unitMargin
 covers-long s p rise fall [] path = absurd path
-covers-long s p rise fall (a ∷ l) path =
-    let c = covers-rule (s .option) s (normal p) a l path (normal p .barrier) rise fall in
-    omega (arith, mirror (s .option) (normal p .barrier) s (normal p))
+covers-long s p rise fall (a ∷ l) path = by-flag (p .flags .knockedOut)
+  where
+    by-flag : (t : Bool) → paymentByFlag16 t (s .option) (normal p) (a ∷ l) ≤ unitByFlag16 t s (normal p)
+    by-flag true = omega arith
+    by-flag false =
+        let c = covers-rule (s .option) s (normal p) a l path (normal p .barrier) rise fall in
+        omega (arith, mirror (s .option) (normal p .barrier) s (normal p))
 
 pub covers :
     (s : Series) (p : Position) → 1_000_000 ≤ s .fa → s .fb ≤ 1_000_000 → Covers s p (unitMargin s p)

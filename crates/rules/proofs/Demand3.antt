@@ -16,12 +16,12 @@ use Rattle.rules.proofs.MayPair.{may-pairable}
 use Rattle.rules.proofs.PairCover.{pair-covers}
 use Rattle.rules.proofs.PairPromises as PairPromises
 use Rattle.rules.proofs.Reading.{accepted-within}
-use Rattle.rules.proofs.RowFacts.{beside, rebate-none}
+use Rattle.rules.proofs.RowFacts.{beside, flag-16-keeps, rebate-none}
 use Rattle.rules.specs.File.{Account, accountOf, layout, positionOf, positionRow, seriesOf, seriesOfRow, seriesRow}
 use Rattle.rules.specs.Limits.{FileWithin}
 use Rattle.rules.specs.Lines.{lines, linesFor, linesGiven, marginAnswer, marginForList, total}
 use Rattle.rules.specs.Paths.{payment}
-use Rattle.rules.specs.Promises.{ContractsDemand, Cover, CoverDemand, Least, LeastDemand, LowFactors, UnmadeDemand}
+use Rattle.rules.specs.Promises.{ContractsDemand, Cover, CoverDemand, Least, LeastDemand, LowFactors, NeverPairedDemand, UnmadeDemand}
 use Rattle.rules.specs.Refusals.{accepted, fileRead, meaning, meant}
 use Rattle.rules.specs.declared.FileRead.{FileRead}
 use Rattle.rules.specs.declared.FileRead.the-variants.{Accepted, Refused}
@@ -41,6 +41,7 @@ module _ (b : List ℕ) (h : FileWithin b) (factors : LowFactors (accountOf b (l
       (factors (row .series) (within .series-below))
       (beside within)
       (rebate-none within)
+      (flag-16-keeps within)
 
   cover-within : Cover (accountOf b (layout b))
   unfolding layout
@@ -58,9 +59,9 @@ module _ (b : List ℕ) (h : FileWithin b) (factors : LowFactors (accountOf b (l
       let a : Account = accountOf b (layout b) in
       let i = a .positionAt w .series in
       let below = h .position-rows w there .series-below in
-      let one = may-pairable a w g may .one-series in
-      subst (λ (j : ℕ). payment (seriesOfRow a w) (a .positionAt w) (path i) ≤ u + payment (a .seriesAt j) (a .positionAt g) (path j)) one
-      (pair-covers (seriesOfRow a w) (a .positionAt g) (a .positionAt w) u e (path i) (each i below)))
+      let pair = may-pairable a w g may in
+      subst (λ (j : ℕ). payment (seriesOfRow a w) (a .positionAt w) (path i) ≤ u + payment (a .seriesAt j) (a .positionAt g) (path j)) (pair .one-series)
+      (pair-covers (seriesOfRow a w) (a .positionAt g) (a .positionAt w) u (pair .held-stands) (pair .written-stands) e (path i) (each i below)))
 
 -- "The cover, where every fb is at most 1,000,000: for every choice of one path for each series, total × 1,000,000 plus
 -- what the pairs bring in is at least what the written rows pay out. All rows of a series follow its path. A written row
@@ -82,9 +83,14 @@ contracts b a e = PairPromises.contracts a
 pub unmade : (b : List ℕ) → UnmadeDemand b
 unmade b a e = PairPromises.unmade a
 
+-- A row with flag 16 "is never paired" (document 02 [5]).
+pub never-paired : (b : List ℕ) → NeverPairedDemand b
+never-paired b a e = PairPromises.never-paired a
+
 -- "The least amount, where every fb is at most 1,000,000: an amount per unit, in whole fine units, covers a position if
 -- it is at least the position's payment on every path of its series. The unit margin of each written row covers it.
--- Every other amount that covers it and is at least MM is, with one fine unit added, at least that unit margin."
+-- Every other amount that covers it and is at least MM is, with one fine unit added, at least that unit margin." Of a row with
+-- flag 16 the "least amount is REB without the minimum" (document 02 [5]).
 pub least : (b : List ℕ) → LeastDemand b
 least b a e factors =
     let known = accepted-within b a e in

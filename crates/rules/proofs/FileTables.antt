@@ -4,7 +4,7 @@ use mathlib.Core.Bool.{Bool, true, false}
 use mathlib.Core.List.{List, [], _∷_, _++_}
 use mathlib.Core.Path.{_≡_}
 use lib.IntN.{negℤ, pos}
-use Rattle.rules.proofs.CheckOrder.{bytes4, noRows, trailerBytes}
+use Rattle.rules.proofs.CheckOrder.{noRows, trailerBytes}
 use Rattle.rules.proofs.CheckedValues.{series}
 use Rattle.rules.specs.File.{barrierOf, flagsOf, limiterOf, optionOf, positionRowFrom, positionWidth, seriesRowFrom, seriesWidth, sideOf, span, trailerWidth, u16At, u24At, u32At, u8At}
 use Rattle.rules.specs.Limits.{mostBytes, mostPositions, mostSeries}
@@ -12,6 +12,7 @@ use Rattle.rules.specs.Lines.{marginAnswer, premiumAnswer}
 use Rattle.rules.specs.OnePosition.{amountAnswer, signedAnswer}
 use Rattle.rules.specs.Output.{marginText, premiumsFor}
 use Rattle.rules.specs.Refusals.{meaning, refused}
+use Rattle.rules.specs.Writing.{bytes4}
 use Rattle.rules.specs.declared.AmountAnswer.the-variants.{Amount}
 use Rattle.rules.specs.declared.Barrier.the-variants.{NoBarrier, UpIn, DownIn, UpOut, DownOut}
 use Rattle.rules.specs.declared.Flags.{Flags}
@@ -70,19 +71,27 @@ Fields =
     × (barrierOf 4 7 ≡ DownOut 7)
 
 -- Each flag is one bit, whatever the others are.
-abbrev pub flags : Bool → Bool → Bool → Bool → Flags
-flags knockedIn limited european beforeAnnex =
-    record { knockedIn = knockedIn; limited = limited; european = european; beforeAnnex = beforeAnnex }
+abbrev pub flags : Bool → Bool → Bool → Bool → Bool → Flags
+flags knockedIn limited european beforeAnnex knockedOut =
+    record {
+      knockedIn = knockedIn;
+      limited = limited;
+      european = european;
+      beforeAnnex = beforeAnnex;
+      knockedOut = knockedOut;
+    }
 
 abbrev pub FlagBits : Type 0
 FlagBits =
-    (flagsOf 0 ≡ flags false false false false)
-    × (flagsOf 1 ≡ flags true false false false)
-    × (flagsOf 2 ≡ flags false true false false)
-    × (flagsOf 4 ≡ flags false false true false)
-    × (flagsOf 8 ≡ flags false false false true)
-    × (flagsOf 15 ≡ flags true true true true)
-    × (flagsOf 24 ≡ flags false false false true)
+    (flagsOf 0 ≡ flags false false false false false)
+    × (flagsOf 1 ≡ flags true false false false false)
+    × (flagsOf 2 ≡ flags false true false false false)
+    × (flagsOf 4 ≡ flags false false true false false)
+    × (flagsOf 8 ≡ flags false false false true false)
+    × (flagsOf 16 ≡ flags false false false false true)
+    × (flagsOf 15 ≡ flags true true true true false)
+    × (flagsOf 31 ≡ flags true true true true true)
+    × (flagsOf 48 ≡ flags false false false false true)
     × (limiterOf true 7 ≡ At 7)
     × (limiterOf false 7 ≡ NoLimiter)
 

@@ -4,12 +4,13 @@
 use Prim.Native.Nat.{ℕ, _+_, _*_, _-_, _≤_, _<_, max}
 use mathlib.Core.Bool.{Bool, true, false, cond}
 use mathlib.Core.List.{List, [], _∷_}
-use mathlib.Core.Path.{_≡_, refl}
+use mathlib.Core.Path.{_≡_, refl, _∙_, ap}
 use borrow.Author.Tests.{le-leb, lt-leb}
 use lib.Dec.{ltb}
 use native.Mathlib.Nat.{le-of-lt, mul-le-mul-left, mul-le-mul-right}
 use native.Mathlib.Omega.{arith}
 use Rattle.rules.proofs.Cover.{covers}
+use Rattle.rules.proofs.Flag16.{payment-with, payment-without, unit-with, unit-without}
 use Rattle.rules.proofs.Mirror.{charge, mirror, rule, worst}
 use Rattle.rules.proofs.Payoff.{charged-paid, worst-in}
 use Rattle.rules.proofs.RowFacts.{Beside}
@@ -17,7 +18,7 @@ use Rattle.rules.proofs.Tests.{ltb-case}
 use Rattle.rules.proofs.Touch.{In}
 use Rattle.rules.specs.OnePosition.{normal, rebate, unitMargin}
 use Rattle.rules.specs.Paths.{IsPath, atOrAbove, atOrBelow, inPayment, outPayment, paymentByBarrier, payment, payoffAt}
-use Rattle.rules.specs.Promises.{Covers, LeastFor}
+use Rattle.rules.specs.Promises.{Covers, LeastFor, LeastWithFlag16}
 use Rattle.rules.specs.Quantities.{fine, high, low, minimum}
 use Rattle.rules.specs.declared.Barrier.{Barrier}
 use Rattle.rules.specs.declared.Barrier.the-variants.{NoBarrier, UpIn, DownIn, UpOut, DownOut}
@@ -139,23 +140,41 @@ minimum-rule k (DownIn b) s p = max-over (fine b) (low s) _ _ _
 minimum-rule k (UpOut b) s p = max-over (high s) (fine b) _ _ _
 minimum-rule k (DownOut b) s p = max-over (fine b) (low s) _ _ _
 
--- The unit margin is at least MM, so it is itself one of the amounts that `least` speaks of.
-pub above-minimum : (s : Series) (p : Position) → minimum s ≤ unitMargin s p
-unfolding unitMargin
-above-minimum s p =
+-- The unit margin of a row without flag 16 is at least MM, so it is itself one of the amounts that `least` speaks of.
+pub above-minimum : (s : Series) (p : Position) → p .flags .knockedOut ≡ false → minimum s ≤ unitMargin s p
+above-minimum s p stands =
     let c = minimum-rule (s .option) (normal p .barrier) s (normal p) in
-    omega (arith, mirror (s .option) (normal p .barrier) s (normal p))
+    omega (arith, unit-without s p stands, mirror (s .option) (normal p .barrier) s (normal p))
 
-pub least :
-    (s : Series) (p : Position) → 1_000_000 ≤ s .fa → s .fb ≤ 1_000_000 → Beside (s .pv) (normal p .barrier)
-    → (normal p .barrier ≡ NoBarrier → normal p .reb ≡ 0)
-    → (amount : ℕ) → Covers s p amount → minimum s ≤ amount → unitMargin s p ≤ amount + 1
-unfolding payment unitMargin
-least s p rise fall side none a cover m =
-    let c = least-rule (s .option) s (normal p) a rise fall (normal p .barrier) side none cover m in
-    omega (arith, mirror (s .option) (normal p .barrier) s (normal p))
+module _ (s : Series) (p : Position) (rise : 1_000_000 ≤ s .fa) (fall : s .fb ≤ 1_000_000) where
+  least-without :
+      p .flags .knockedOut ≡ false → Beside (s .pv) (normal p .barrier)
+      → (normal p .barrier ≡ NoBarrier → normal p .reb ≡ 0)
+      → (amount : ℕ) → Covers s p amount → minimum s ≤ amount → unitMargin s p ≤ amount + 1
+  least-without stands side none a cover m =
+      let c =
+      least-rule (s .option) s (normal p) a rise fall (normal p .barrier) side none
+      (λ l i. omega (arith, cover l i, payment-without s p stands l)) m in
+      omega (arith, unit-without s p stands, mirror (s .option) (normal p .barrier) s (normal p))
 
-pub least-for :
-    (s : Series) (p : Position) → 1_000_000 ≤ s .fa → s .fb ≤ 1_000_000 → Beside (s .pv) (normal p .barrier)
-    → (normal p .barrier ≡ NoBarrier → normal p .reb ≡ 0) → LeastFor s p
-least-for s p rise fall side none = (covers s p rise fall, least s p rise fall side none)
+  -- A row with flag 16 pays REB on the path that is today's price alone.
+  least-with : p .flags .knockedOut ≡ true → (amount : ℕ) → Covers s p amount → unitMargin s p ≤ amount
+  least-with out a cover =
+      let up : fine (s .pv) ≤ high s = mul-le-mul-left (s .pv) rise in
+      let down : low s ≤ fine (s .pv) = mul-le-mul-left (s .pv) fall in
+      let path : List ℕ = fine (s .pv) ∷ [] in
+      omega (arith, unit-with s p out, payment-with s p out path, cover path (omega arith))
+
+  -- Of a row whose barrier, unless it has flag 16, stands on its side of PV; that has REB 0 where it has no barrier; and
+  -- that keeps its REB where it has flag 16.
+  pub least-for :
+      (p .flags .knockedOut ≡ false → Beside (s .pv) (normal p .barrier))
+      → (normal p .barrier ≡ NoBarrier → normal p .reb ≡ 0)
+      → (p .flags .knockedOut ≡ true → normal p .reb ≡ p .terms .reb)
+      → LeastFor s p
+  least-for side none keeps =
+      (covers s p rise fall, by-flag (p .flags .knockedOut) refl, λ e. (unit-with s p e ∙ ap fine (keeps e), least-with e))
+    where
+      by-flag : (t : Bool) → p .flags .knockedOut ≡ t → (amount : ℕ) → Covers s p amount → minimum s ≤ amount → unitMargin s p ≤ amount + 1
+      by-flag true e a cover m = omega (arith, least-with e a cover)
+      by-flag false e a cover m = least-without e (side e) none a cover m

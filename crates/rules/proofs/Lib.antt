@@ -19,6 +19,7 @@ pub mod PrintedOutput
 pub mod Mirror
 pub mod Touch
 pub mod Payoff
+pub mod Flag16
 pub mod Cover
 pub mod RowFacts
 pub mod Least
@@ -46,3 +47,12 @@ pub mod Demand3
 pub mod FileNumbers
 pub mod Answers
 pub mod NoPositions
+-- The day: stores, the fields of a file after them, the rows after the day, and what is promised of it.
+pub mod Stores
+pub mod Fields
+pub mod DayLaws
+pub mod DayRows
+pub mod DayFile
+pub mod DayPromises
+pub mod DayAnswers
+pub mod DayTables

@@ -16,7 +16,7 @@ use Rattle.rules.specs.declared.OptionType.{OptionType}
 use Rattle.rules.specs.declared.OptionType.the-variants.{Call, Put}
 use Rattle.rules.specs.declared.Position.{Position}
 use Rattle.rules.specs.declared.Side.{Side}
-use Rattle.rules.specs.declared.Side.the-variants.{Written}
+use Rattle.rules.specs.declared.Side.the-variants.{Held, Written}
 
 -- A row with flag 1: a barrier that has been touched, and a rebate.
 abbrev pub knockedInRow : Side → ℕ → Limiter → Barrier → ℕ → Position
@@ -25,7 +25,19 @@ knockedInRow side pe limiter barrier reb =
       series = 0;
       side = side;
       terms = record { pe = pe; limiter = limiter; barrier = barrier; reb = reb };
-      flags = record { knockedIn = true; limited = false; european = true; beforeAnnex = false };
+      flags = record { knockedIn = true; limited = false; european = true; beforeAnnex = false; knockedOut = false };
+      q = 10;
+      premium = 0;
+    }
+
+-- A row with flag 16: a knock-out that was touched, and its rebate.
+abbrev pub knockedOutRow : Side → ℕ → Limiter → Barrier → ℕ → Position
+knockedOutRow side pe limiter barrier reb =
+    record {
+      series = 0;
+      side = side;
+      terms = record { pe = pe; limiter = limiter; barrier = barrier; reb = reb };
+      flags = record { knockedIn = false; limited = false; european = true; beforeAnnex = false; knockedOut = true };
       q = 10;
       premium = 0;
     }
@@ -112,3 +124,14 @@ Payments =
     × (pays Put 3500 NoLimiter (DownOut 2999) 40 ≡ fine 200)
     -- Flag 1: knocked in already
     × (payment (series Call) (knockedInRow Written 3100 NoLimiter (UpIn 3700) 40) rising ≡ fine 200)
+
+-- "A row with flag 16 has unit margin REB if written", without MM, whatever else it has; it "pays REB on every path".
+abbrev pub KnockedOut : Type 0
+KnockedOut =
+    (unitMargin (series Call) (knockedOutRow Written 3100 NoLimiter (UpOut 3500) 0) ≡ 0)
+    × (unitMargin (series Call) (knockedOutRow Written 3100 NoLimiter (UpOut 2900) 40) ≡ fine 40)
+    × (unitMargin (series Call) (knockedOutRow Written 3100 (At 3300) (DownOut 3100) 600) ≡ fine 600)
+    × (unitMargin (series Put) (knockedOutRow Written 3200 NoLimiter (DownOut 2500) 149) ≡ fine 149)
+    × (payment (series Call) (knockedOutRow Written 3100 NoLimiter (UpOut 3700) 40) rising ≡ fine 40)
+    × (payment (series Put) (knockedOutRow Held 3500 NoLimiter (DownOut 2000) 0) rising ≡ 0)
+    × (payment (series Put) (knockedOutRow Held 3500 NoLimiter (DownOut 2000) 7) (fine 3600 ∷ []) ≡ fine 7)

@@ -1,16 +1,16 @@
 -- Document 01, Pairs: what two rows that pair are like, and their strike difference.
 -- Assumes nothing.
 use Prim.Native.Nat.{ℕ, _-_, _≤_, _<_}
-use mathlib.Core.Bool.{Bool, true, _&&_, false≢true}
+use mathlib.Core.Bool.{Bool, true, false, not, _&&_, _||_, false≢true}
 use mathlib.Core.Path.{_≡_, refl, ap}
 use native.Mathlib.Omega.{arith}
 use lib.Dec.{eqb}
-use borrow.Author.Tests.{eqb-true, ltb-true}
+use borrow.Author.Tests.{eqb-true, ltb-true, not-true}
 use Rattle.rules.proofs.Tests.{both}
 use Rattle.rules.proofs.Weights.{Apart}
 use Rattle.rules.specs.File.{Account, seriesOfRow}
 use Rattle.rules.specs.OnePosition.{unitMargin}
-use Rattle.rules.specs.Pairs.{bookOf, europeanOrBeforeAnnex, gapOf, isHeld, isWritten, lowers, mayOf, mayPair}
+use Rattle.rules.specs.Pairs.{bookOf, gapOf, isHeld, isWritten, lowers, mayBePaired, mayOf, mayPair}
 use Rattle.rules.specs.Spreads.{unitSpread}
 use Rattle.rules.specs.declared.Position.{Position}
 use Rattle.rules.specs.declared.Series.{Series}
@@ -19,14 +19,16 @@ use Rattle.rules.specs.declared.Side.the-variants.{Held, Written}
 use Rattle.rules.specs.declared.Spread.{Spread}
 use Rattle.rules.specs.declared.Spread.the-variants.{Barred, Margin}
 
--- "one held and one written row of a series, both European or opened before the annex", with "the written unit margin
--- .. greater than the spread's".
+-- "one held and one written row of a series, both European or opened before the annex" and neither with flag 16, with "the
+-- written unit margin .. greater than the spread's".
 pub record Pairable (s : Series) (w h : Position) : Type 0 where
   pub is-written : w .side ≡ Written
   pub is-held : h .side ≡ Held
   pub one-series : w .series ≡ h .series
-  pub written-terms : europeanOrBeforeAnnex w ≡ true
-  pub held-terms : europeanOrBeforeAnnex h ≡ true
+  pub written-terms : mayBePaired w ≡ true
+  pub held-terms : mayBePaired h ≡ true
+  pub written-stands : w .flags .knockedOut ≡ false
+  pub held-stands : h .flags .knockedOut ≡ false
   pub spread : ℕ
   pub spread-is : unitSpread s h w ≡ Margin spread
   pub spread-less : spread < unitMargin s w
@@ -52,12 +54,17 @@ five p q r s t e =
     let first = both p q (third .0) in
     (first .0, first .1, third .1, fourth .1, last .1)
 
+-- A row that may be paired has no flag 16.
+pub stands : (p : Position) → mayBePaired p ≡ true → p .flags .knockedOut ≡ false
+stands p e =
+    not-true (p .flags .knockedOut) (both (p .flags .european || p .flags .beforeAnnex) (not (p .flags .knockedOut)) e .1)
+
 pub pairable-if : (s : Series) (w h : Position) → mayPair s w h ≡ true → Pairable s w h
 pairable-if s w h e =
     let tests =
-    five (isWritten (w .side)) (isHeld (h .side)) (eqb (w .series) (h .series)) (europeanOrBeforeAnnex w && europeanOrBeforeAnnex h)
+    five (isWritten (w .side)) (isHeld (h .side)) (eqb (w .series) (h .series)) (mayBePaired w && mayBePaired h)
     (lowers (unitMargin s w) (unitSpread s h w)) e in
-    let terms = both (europeanOrBeforeAnnex w) (europeanOrBeforeAnnex h) (tests .3) in
+    let terms = both (mayBePaired w) (mayBePaired h) (tests .3) in
     let less = lowered (unitMargin s w) (unitSpread s h w) (tests .4) in
     record {
       is-written = side-written (w .side) (tests .0);
@@ -65,6 +72,8 @@ pairable-if s w h e =
       one-series = eqb-true (w .series) (h .series) (tests .2);
       written-terms = terms .0;
       held-terms = terms .1;
+      written-stands = stands w (terms .0);
+      held-stands = stands h (terms .1);
       spread = less .0;
       spread-is = less .1;
       spread-less = less .2;

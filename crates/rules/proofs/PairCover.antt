@@ -9,6 +9,7 @@ use borrow.Author.Tests.{eqb-true, le-leb, leb-true, ltb-false}
 use lib.Dec.{eqb, leb}
 use native.Mathlib.Nat.{le-of-lt}
 use native.Mathlib.Omega.{arith}
+use Rattle.rules.proofs.Flag16.{payment-without}
 use Rattle.rules.proofs.SameRows.{of-kind, same-paid}
 use Rattle.rules.proofs.SpreadForms.{spread-made}
 use Rattle.rules.proofs.Tests.{cond-case}
@@ -171,10 +172,12 @@ module _ (s : Series) (h w : Terms) (a : ℕ) (l : List ℕ) (within : Every (In
       (one-kind (unbarred (s .option) (h .limiter) (w .limiter) (lastOr a l) (t .0)) (w .barrier) (priceOf (h .barrier)))))
       (spread-made s h w u e)
 
--- The cover of one pair, of any two rows of any series.
+-- The cover of one pair, of any two rows of any series that have no flag 16.
 pub pair-covers :
-    (s : Series) (h w : Position) (u : ℕ) → unitSpread s h w ≡ Margin u
+    (s : Series) (h w : Position) (u : ℕ) → h .flags .knockedOut ≡ false → w .flags .knockedOut ≡ false → unitSpread s h w ≡ Margin u
     → (path : List ℕ) → IsPath s path → payment s w path ≤ u + payment s h path
-unfolding payment unitSpread
-pair-covers s h w u e [] path = absurd path
-pair-covers s h w u e (a ∷ l) path = spread-covered s (normal h) (normal w) a l (inside s (a ∷ l) path) u e
+unfolding unitSpread
+pair-covers s h w u held written e [] path = absurd path
+pair-covers s h w u held written e (a ∷ l) path =
+    rw (payment-without s w written (a ∷ l), payment-without s h held (a ∷ l))
+    (spread-covered s (normal h) (normal w) a l (inside s (a ∷ l) path) u e)

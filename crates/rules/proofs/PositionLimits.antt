@@ -41,23 +41,25 @@ module _ (s : ℕ) (k : SeriesRow) (r : PositionRow) where
   position-within e =
       let limited : Bool = flagsOf (r .flags) .limited in
       let knocked : Bool = flagsOf (r .flags) .knockedIn in
+      let out : Bool = flagsOf (r .flags) .knockedOut in
       let call : Bool = eqb (k .option) 0 in
       let up : Bool = eqb (r .kind) 1 || eqb (r .kind) 3 in
       let down : Bool = eqb (r .kind) 2 || eqb (r .kind) 4 in
       let passes = all-pass (positionRowChecks s k r) e in
       let terms = none-of-five (leb s (r .series)) (ltb 1 (r .side)) (ltb 4 (r .kind)) (wrongFlags r) (nonzero (r .spare)) (passes .0) in
-      let flags = neither (ltb 15 (r .flags)) (knocked && outside 1 2 (r .kind)) (terms .3) in
+      let flags = none-of-three (ltb 31 (r .flags)) (knocked && outside 1 2 (r .kind)) (out && outside 3 4 (r .kind)) (terms .3) in
       let range = none-of-five (outside 1 100_000 (r .q)) (outside 1 10_000_000 (r .pe)) (ltb 10_000_000 (r .reb)) (ltb 10_000_000 (r .premium)) (eqb (r .side) 1 && nonzero (r .premium)) (passes .1 .0) in
       let limits = none-of-three (not limited && nonzero (r .pb)) (limited && call && (leb (r .pb) (r .pe) || ltb 10_000_000 (r .pb))) (limited && not call && leb (r .pe) (r .pb)) (passes .1 .1 .0) in
       let prices = neither (eqb (r .kind) 0 && (nonzero (r .price) || nonzero (r .reb))) (nonzero (r .kind) && outside 1 10_000_000 (r .price)) (passes .1 .1 .1 .0) in
       let none : r .kind ≡ 0 → (nonzero (r .price) ≡ false) × (nonzero (r .reb) ≡ false) = λ z. neither (nonzero (r .price)) (nonzero (r .reb)) (not-both (eqb (r .kind) 0) (nonzero (r .price) || nonzero (r .reb)) (prices .0) (eq-eqb (r .kind) 0 z)) in
-      let sides : r .flags % 2 ≡ 0 → ((up && leb (r .price) (k .pv)) ≡ false) × ((down && leb (k .pv) (r .price)) ≡ false) = λ z. neither (up && leb (r .price) (k .pv)) (down && leb (k .pv) (r .price)) (not-both (not knocked) ((up && leb (r .price) (k .pv)) || (down && leb (k .pv) (r .price))) (passes .1 .1 .1 .1 .0) (ap not (bit-clear (r .flags % 2) z))) in
+      let sides : r .flags % 2 ≡ 0 → r .flags / 16 % 2 ≡ 0 → ((up && leb (r .price) (k .pv)) ≡ false) × ((down && leb (k .pv) (r .price)) ≡ false) = λ z y. neither (up && leb (r .price) (k .pv)) (down && leb (k .pv) (r .price)) (not-both (not knocked && not out) ((up && leb (r .price) (k .pv)) || (down && leb (k .pv) (r .price))) (passes .1 .1 .1 .1 .0) (both-hold (not knocked) (not out) (ap not (bit-clear (r .flags % 2) z)) (ap not (bit-clear (r .flags / 16 % 2) y)))) in
       record {
         series-below = leb-false s (r .series) (terms .0);
         side-most = ltb-false 1 (r .side) (terms .1);
         kind-most = ltb-false 4 (r .kind) (terms .2);
-        flags-most = ltb-false 15 (r .flags) (flags .0);
-        knocked-kind = λ z. inside 1 2 (r .kind) (not-both knocked (outside 1 2 (r .kind)) (flags .1) (eq-eqb (r .flags % 2) 1 z));
+        flags-most = ltb-false 31 (r .flags) (flags .0);
+        knocked-in-kind = λ z. inside 1 2 (r .kind) (not-both knocked (outside 1 2 (r .kind)) (flags .1) (eq-eqb (r .flags % 2) 1 z));
+        knocked-out-kind = λ z. inside 3 4 (r .kind) (not-both out (outside 3 4 (r .kind)) (flags .2) (eq-eqb (r .flags / 16 % 2) 1 z));
         spare-zero = is-zero (r .spare) (terms .4);
         q-least = inside 1 100_000 (r .q) (range .0) .0;
         q-most = inside 1 100_000 (r .q) (range .0) .1;
@@ -74,8 +76,8 @@ module _ (s : ℕ) (k : SeriesRow) (r : PositionRow) where
         price-none = λ z. is-zero (r .price) (none z .0);
         reb-none = λ z. is-zero (r .reb) (none z .1);
         price-some = λ z. inside 1 10_000_000 (r .price) (not-both (nonzero (r .kind)) (outside 1 10_000_000 (r .price)) (prices .1) (ap not (ne-eqb (r .kind) 0 (λ q. omega arith))));
-        price-above = λ z u. leb-false (r .price) (k .pv) (not-both up (leb (r .price) (k .pv)) (sides z .0) (either-true (r .kind) 1 3 u));
-        price-below = λ z u. leb-false (k .pv) (r .price) (not-both down (leb (k .pv) (r .price)) (sides z .1) (either-true (r .kind) 2 4 u));
+        price-above = λ z y u. leb-false (r .price) (k .pv) (not-both up (leb (r .price) (k .pv)) (sides z y .0) (either-true (r .kind) 1 3 u));
+        price-below = λ z y u. leb-false (k .pv) (r .price) (not-both down (leb (k .pv) (r .price)) (sides z y .1) (either-true (r .kind) 2 4 u));
       }
 
   -- The way back asks that the series' type is 0 or 1, as every row's series has by then.
@@ -84,6 +86,7 @@ module _ (s : ℕ) (k : SeriesRow) (r : PositionRow) where
   position-clean o h =
       let limited : Bool = flagsOf (r .flags) .limited in
       let knocked : Bool = flagsOf (r .flags) .knockedIn in
+      let out : Bool = flagsOf (r .flags) .knockedOut in
       let call : Bool = eqb (k .option) 0 in
       let up : Bool = eqb (r .kind) 1 || eqb (r .kind) 3 in
       let down : Bool = eqb (r .kind) 2 || eqb (r .kind) 4 in
@@ -92,8 +95,9 @@ module _ (s : ℕ) (k : SeriesRow) (r : PositionRow) where
             (lt-leb s (r .series) (h .series-below))
             (le-ltb 1 (r .side) (h .side-most))
             (le-ltb 4 (r .kind) (h .kind-most))
-            (both-fail (ltb 15 (r .flags)) (knocked && outside 1 2 (r .kind)) (le-ltb 15 (r .flags) (h .flags-most))
-            (one-fails knocked (outside 1 2 (r .kind)) (λ t. let z = h .knocked-kind (eqb-true (r .flags % 2) 1 t) in in-range 1 2 (r .kind) (z .0) (z .1))))
+            (three-fail (ltb 31 (r .flags)) (knocked && outside 1 2 (r .kind)) (out && outside 3 4 (r .kind)) (le-ltb 31 (r .flags) (h .flags-most))
+            (one-fails knocked (outside 1 2 (r .kind)) (λ t. let z = h .knocked-in-kind (eqb-true (r .flags % 2) 1 t) in in-range 1 2 (r .kind) (z .0) (z .1)))
+            (one-fails out (outside 3 4 (r .kind)) (λ t. let z = h .knocked-out-kind (eqb-true (r .flags / 16 % 2) 1 t) in in-range 3 4 (r .kind) (z .0) (z .1))))
             (zero-is (r .spare) (h .spare-zero))),
         (
           (five-fail (outside 1 100_000 (r .q)) (outside 1 10_000_000 (r .pe)) (ltb 10_000_000 (r .reb)) (ltb 10_000_000 (r .premium)) (eqb (r .side) 1 && nonzero (r .premium))
@@ -123,11 +127,13 @@ module _ (s : ℕ) (k : SeriesRow) (r : PositionRow) where
                   let z = h .price-some (omega arith) in
                   in-range 1 10_000_000 (r .price) (z .0) (z .1)))),
               (
-                (one-fails (not knocked) ((up && leb (r .price) (k .pv)) || (down && leb (k .pv) (r .price))) (λ t.
-                    let z = bit-zero (r .flags) t in
+                (one-fails (not knocked && not out) ((up && leb (r .price) (k .pv)) || (down && leb (k .pv) (r .price))) (λ t.
+                    let x = both (not knocked) (not out) t in
+                    let z = bit-zero (r .flags) (x .0) in
+                    let y = bit-zero (r .flags / 16) (x .1) in
                     both-fail (up && leb (r .price) (k .pv)) (down && leb (k .pv) (r .price))
-                    (one-fails up (leb (r .price) (k .pv)) (λ u. lt-leb (r .price) (k .pv) (h .price-above z (either-of (r .kind) 1 3 u))))
-                    (one-fails down (leb (k .pv) (r .price)) (λ u. lt-leb (k .pv) (r .price) (h .price-below z (either-of (r .kind) 2 4 u)))))),
+                    (one-fails up (leb (r .price) (k .pv)) (λ u. lt-leb (r .price) (k .pv) (h .price-above z y (either-of (r .kind) 1 3 u))))
+                    (one-fails down (leb (k .pv) (r .price)) (λ u. lt-leb (k .pv) (r .price) (h .price-below z y (either-of (r .kind) 2 4 u)))))),
                 tt,
               ),
             ),

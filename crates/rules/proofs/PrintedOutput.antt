@@ -3,7 +3,7 @@
 use Prim.Native.Nat.{ℕ}
 use mathlib.Core.List.{List, [], _∷_, _++_}
 use mathlib.Core.Path.{_≡_, refl}
-use Rattle.rules.proofs.CheckOrder.{bytes4, seriesBytes, trailerBytes}
+use Rattle.rules.proofs.CheckOrder.{seriesBytes, trailerBytes}
 use Rattle.rules.specs.File.{layout, positionRow, seriesRow, span}
 use Rattle.rules.specs.Lines.{leftLines, lines, linesGiven, marginAnswer, pairLines, premiums, sumOver, sumTo, total}
 use Rattle.rules.specs.OnePosition.{unitMargin}
@@ -11,6 +11,7 @@ use Rattle.rules.specs.Output.{decimalIn, leftText, linesText, marginTex
 use Rattle.rules.specs.Pairs.{along, gapOf, leftAfter, madeAfter, mayOf, through}
 use Rattle.rules.specs.Refusals.{fileRead, matchedFault, positionRowFault, positionRows, refuse, rows, seriesRowFault, seriesRows, trailerFault}
 use Rattle.rules.specs.Spreads.{unitSpread}
+use Rattle.rules.specs.Writing.{bytes4}
 
 -- A European row of series 0: its side, Q, PE and premium.
 abbrev rowBytes : ℕ → ℕ → ℕ → ℕ → List ℕ

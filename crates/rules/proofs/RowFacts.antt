@@ -1,6 +1,6 @@
--- What flag 1 leaves of a row, and what the limits of a position row say of its barrier once it is applied.
+-- What flag 1 leaves of a row, and what the limits of a position row say of its barrier and rebate once it is applied.
 -- Assumes nothing.
-use Prim.Native.Nat.{ℕ, _%_, _≤_, _<_}
+use Prim.Native.Nat.{ℕ, _/_, _%_, _≤_, _<_}
 use mathlib.Core.Bool.{Bool, true, false, cond}
 use mathlib.Core.Logic.{inl, inr}
 use mathlib.Core.Path.{_≡_, refl, ap, _∙_}
@@ -35,7 +35,7 @@ Beside pv (UpOut price) = pv < price
 Beside pv (DownOut price) = price < pv
 
 -- P holds of a row's barrier if it holds of each kind where that is the row's.
-by-kind :
+pub by-kind :
     (P : Barrier → Type 0) (kind price : ℕ) → kind ≤ 4
     → (kind ≡ 0 → P NoBarrier) → (kind ≡ 1 → P (UpIn price)) → (kind ≡ 2 → P (DownIn price))
     → (kind ≡ 3 → P (UpOut price)) → (kind ≡ 4 → P (DownOut price)) → P (barrierOf kind price)
@@ -48,19 +48,20 @@ by-kind P kind price most none ui di uo do' =
 
 -- A row within its limits, and its series row k.
 module _ {n : ℕ} {k : SeriesRow} {r : PositionRow} (w : PositionWithin n k r) where
-  -- "above PV for kinds 1 and 3, below PV for kinds 2 and 4, except where flag 1 is set"
-  pub beside : Beside (seriesOf k .pv) (normal (positionOf r) .barrier)
-  beside = by-flag (flagsOf (r .flags) .knockedIn) refl
+  -- "above PV for kinds 1 and 3, below PV for kinds 2 and 4, except where flag 1 is set", or flag 16
+  pub beside : flagsOf (r .flags) .knockedOut ≡ false → Beside (seriesOf k .pv) (normal (positionOf r) .barrier)
+  beside stands = by-flag (flagsOf (r .flags) .knockedIn) refl
     where
       by-flag : (t : Bool) → flagsOf (r .flags) .knockedIn ≡ t → Beside (k .pv) (afterFlag1 t (termsOf r) .barrier)
       by-flag true e = tt
       by-flag false e =
           let clear : r .flags % 2 ≡ 0 = omega (arith, eqb-false (r .flags % 2) 1 e) in
+          let not-out : r .flags / 16 % 2 ≡ 0 = omega (arith, eqb-false (r .flags / 16 % 2) 1 stands) in
           by-kind (Beside (k .pv)) (r .kind) (r .price) (w .kind-most) (λ q. tt)
-          (λ q. w .price-above clear (inl q))
-          (λ q. w .price-below clear (inl q))
-          (λ q. w .price-above clear (inr q))
-          (λ q. w .price-below clear (inr q))
+          (λ q. w .price-above clear not-out (inl q))
+          (λ q. w .price-below clear not-out (inl q))
+          (λ q. w .price-above clear not-out (inr q))
+          (λ q. w .price-below clear not-out (inr q))
 
   kind-of : r .kind ≡ kindOf (barrierOf (r .kind) (r .price))
   kind-of =
@@ -74,3 +75,14 @@ module _ {n : ℕ} {k : SeriesRow} {r : PositionRow} (w : PositionWithin n k r) 
       by-flag : (t : Bool) → afterFlag1 t (termsOf r) .barrier ≡ NoBarrier → afterFlag1 t (termsOf r) .reb ≡ 0
       by-flag true e = refl
       by-flag false e = w .reb-none (kind-of ∙ ap kindOf e)
+
+  -- Flag 16 is on kinds 3 and 4, flag 1 on kinds 1 and 2: a row with flag 16 keeps its REB.
+  pub flag-16-keeps : flagsOf (r .flags) .knockedOut ≡ true → normal (positionOf r) .reb ≡ r .reb
+  flag-16-keeps e = by-flag (flagsOf (r .flags) .knockedIn) refl
+    where
+      by-flag : (t : Bool) → flagsOf (r .flags) .knockedIn ≡ t → afterFlag1 t (termsOf r) .reb ≡ r .reb
+      by-flag true q =
+          let out = w .knocked-out-kind (eqb-true (r .flags / 16 % 2) 1 e) in
+          let in' = w .knocked-in-kind (eqb-true (r .flags % 2) 1 q) in
+          absurd (omega (arith, out, in'))
+      by-flag false q = refl

@@ -12,7 +12,7 @@ use Rattle.rules.specs.Pairs.{along, gapOf, leftAfter, madeAfter, mayOf,
 use Rattle.rules.specs.Paths.{payment}
 use Rattle.rules.specs.Refusals.{fileRead, matchedFault, meaning, positionRowFault, positionRows, refuse, rows, seriesRowFault, seriesRows, trailerFault}
 use Rattle.rules.specs.Spreads.{unitSpread}
-use Rattle.rules.proofs.MarginTables.{UnitMargins, InBarrierMargins, OutBarrierMargins, Payments, ThreePrices}
+use Rattle.rules.proofs.MarginTables.{UnitMargins, InBarrierMargins, KnockedOut, OutBarrierMargins, Payments, ThreePrices}
 use Rattle.rules.proofs.SpreadTables.{SameRowSpreads, LimitedSpreads, PlainSpreads, CoveringOutSpreads, OtherOutSpreads, Pairing}
 use Rattle.rules.proofs.FileTables.{Answers, Fields, FlagBits, Numbers, Sizes}
 
@@ -20,7 +20,7 @@ pub rule-values :
     UnitMargins × InBarrierMargins × OutBarrierMargins
     × SameRowSpreads × LimitedSpreads × PlainSpreads × CoveringOutSpreads × OtherOutSpreads × Pairing
     × Fields × FlagBits × Sizes × Numbers × Answers
-    × Payments × ThreePrices
+    × Payments × ThreePrices × KnockedOut
 unfolding unitMargin unitSpread marginText linesText pairText leftText totalsText refusedText decimalIn marginAnswer linesGiven lines leftLines pairLines leftAfter madeAfter through along mayOf gapOf premiums total sumTo sumOver meaning fileRead layout seriesRow positionRow seriesRows positionRows rows trailerFault seriesRowFault positionRowFault matchedFault refuse amountAnswer positionAmount premiumAnswer payment
 rule-values = (
   (refl, refl, refl, refl, refl, refl, refl, refl, refl),
@@ -31,12 +31,13 @@ rule-values = (
   (refl, refl, refl, refl, refl, refl, refl, refl, refl, refl, refl),
   (refl, refl, refl, refl, refl, refl, refl, refl, refl, refl, refl, refl),
   (refl, refl, refl, refl, refl, refl, refl, refl, refl, refl, refl, refl, refl, refl),
-  (refl, refl, refl, refl, refl, refl, refl, refl, refl, refl, refl, refl, refl),
+  (refl, refl, refl, refl, refl, refl, refl, refl, refl, refl, refl, refl, refl, refl, refl, refl, refl),
   (refl, refl, refl, refl, refl, refl, refl, refl, refl, refl, refl, refl, refl, refl, refl),
-  (refl, refl, refl, refl, refl, refl, refl, refl, refl),
+  (refl, refl, refl, refl, refl, refl, refl, refl, refl, refl, refl),
   (refl, refl, refl, refl, refl, refl),
   (refl, refl, refl, refl, refl, refl, refl, refl, refl, refl, refl, refl),
   (refl, refl, refl, refl, refl, refl, refl, refl, refl, refl, refl),
   (refl, refl, refl, refl, refl, refl, refl, refl, refl, refl, refl, refl, refl, refl, refl),
   omega arith,
+  (refl, refl, refl, refl, refl, refl, refl),
 )

@@ -19,7 +19,7 @@ use Rattle.rules.specs.declared.Side.{Side}
 use Rattle.rules.specs.declared.Side.the-variants.{Held, Written}
 use Rattle.rules.specs.declared.Spread.{Spread}
 use Rattle.rules.specs.declared.Spread.the-variants.{Barred, Margin}
-use Rattle.rules.proofs.MarginTables.{knockedInRow}
+use Rattle.rules.proofs.MarginTables.{knockedInRow, knockedOutRow}
 
 -- The unit spread margin: the type, then the held row's and the written row's strike, barrier and rebate.
 abbrev pub spread : OptionType → ℕ → Barrier → ℕ → ℕ → Barrier → ℕ → Spread
@@ -143,7 +143,7 @@ termed side number european beforeAnnex pe =
       series = number;
       side = side;
       terms = record { pe = pe; limiter = NoLimiter; barrier = NoBarrier; reb = 0 };
-      flags = record { knockedIn = false; limited = false; european = european; beforeAnnex = beforeAnnex };
+      flags = record { knockedIn = false; limited = false; european = european; beforeAnnex = beforeAnnex; knockedOut = false };
       q = 10;
       premium = 0;
     }
@@ -165,6 +165,11 @@ Pairing =
     -- A limited pair that lowers the margin, 200 to 150, and one that does not
     × (mayPair (series Call) (row Written 3100 (At 3300) NoBarrier 0) (row Held 3250 (At 3300) NoBarrier 0) ≡ true)
     × (mayPair (series Call) (row Written 3100 (At 3300) NoBarrier 0) (row Held 3300 (At 3400) NoBarrier 0) ≡ false)
+    -- A row with flag 16 "is never paired": not with the same option, nor with a row without the flag, on either side
+    × (mayPair (series Call) (knockedOutRow Written 3100 NoLimiter (UpOut 3500) 40) (knockedOutRow Held 3100 NoLimiter (UpOut 3500) 40) ≡ false)
+    × (mayPair (series Call) (row Written 3100 NoLimiter (UpOut 3500) 40) (knockedOutRow Held 3100 NoLimiter (UpOut 3500) 40) ≡ false)
+    × (mayPair (series Call) (knockedOutRow Written 3100 NoLimiter (UpOut 3500) 40) (row Held 3100 NoLimiter (UpOut 3500) 40) ≡ false)
+    × (mayPair (series Call) (row Written 3100 NoLimiter (UpOut 3500) 40) (row Held 3100 NoLimiter (UpOut 3500) 40) ≡ true)
     -- "without sign"
     × (strikeDifference (termed Written 0 true false 3100) (termed Held 0 true false 3250) ≡ 150)
     × (strikeDifference (termed Written 0 true false 3100) (termed Held 0 true false 3000) ≡ 100)

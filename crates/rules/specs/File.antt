@@ -127,7 +127,8 @@ barrierOf kind price =
     cond (eqb kind 1) (UpIn price)
     (cond (eqb kind 2) (DownIn price) (cond (eqb kind 3) (UpOut price) (cond (eqb kind 4) (DownOut price) NoBarrier)))
 
--- "Flags: 1 already knocked in .. 2 has a limiter, 4 European, 8 opened before the annex"
+-- "Flags: 1 already knocked in .. 2 has a limiter, 4 European, 8 opened before the annex"; document 02 [5]: "A new flag 16 ..
+-- marks a knock-out that was touched".
 abbrev pub flagsOf : ℕ → Flags
 flagsOf n =
     record {
@@ -135,6 +136,7 @@ flagsOf n =
       limited = eqb (n / 2 % 2) 1;
       european = eqb (n / 4 % 2) 1;
       beforeAnnex = eqb (n / 8 % 2) 1;
+      knockedOut = eqb (n / 16 % 2) 1;
     }
 
 -- "Without the limiter flag PB is 0. With it" PB is the limiter.

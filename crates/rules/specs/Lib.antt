@@ -10,3 +10,6 @@ pub mod Lines
 pub mod Output
 pub mod Paths
 pub mod Promises
+-- Document 02 [5].
+pub mod Writing
+pub mod Day

@@ -42,9 +42,10 @@ pub record PositionWithin (s : ℕ) (k : SeriesRow) (r : PositionRow) : Type 0 w
   -- "none (0), up-and-in (1), down-and-in (2), up-and-out (3) or down-and-out (4)"
   pub kind-most : r .kind ≤ 4
   -- "Flags: 1 already knocked in (kinds 1 and 2 only), 2 has a limiter, 4 European, 8 opened before the annex; other
-  -- bits zero"
-  pub flags-most : r .flags ≤ 15
-  pub knocked-kind : r .flags % 2 ≡ 1 → (1 ≤ r .kind) × (r .kind ≤ 2)
+  -- bits zero"; document 02 [5]: "A new flag 16, allowed on kinds 3 and 4"
+  pub flags-most : r .flags ≤ 31
+  pub knocked-in-kind : r .flags % 2 ≡ 1 → (1 ≤ r .kind) × (r .kind ≤ 2)
+  pub knocked-out-kind : r .flags / 16 % 2 ≡ 1 → (3 ≤ r .kind) × (r .kind ≤ 4)
   pub spare-zero : r .spare ≡ 0
   -- "Q 1 to 100,000; PE 1 to 10,000,000"
   pub q-least : 1 ≤ r .q
@@ -63,9 +64,10 @@ pub record PositionWithin (s : ℕ) (k : SeriesRow) (r : PositionRow) : Type 0 w
   pub price-none : r .kind ≡ 0 → r .price ≡ 0
   pub reb-none : r .kind ≡ 0 → r .reb ≡ 0
   pub price-some : 1 ≤ r .kind → (1 ≤ r .price) × (r .price ≤ 10_000_000)
-  -- "above PV for kinds 1 and 3, below PV for kinds 2 and 4, except where flag 1 is set"
-  pub price-above : r .flags % 2 ≡ 0 → (r .kind ≡ 1) ⊎ (r .kind ≡ 3) → k .pv < r .price
-  pub price-below : r .flags % 2 ≡ 0 → (r .kind ≡ 2) ⊎ (r .kind ≡ 4) → r .price < k .pv
+  -- "above PV for kinds 1 and 3, below PV for kinds 2 and 4, except where flag 1 is set"; a row with flag 16 "is exempt from
+  -- refusal 11" (document 02 [5])
+  pub price-above : r .flags % 2 ≡ 0 → r .flags / 16 % 2 ≡ 0 → (r .kind ≡ 1) ⊎ (r .kind ≡ 3) → k .pv < r .price
+  pub price-below : r .flags % 2 ≡ 0 → r .flags / 16 % 2 ≡ 0 → (r .kind ≡ 2) ⊎ (r .kind ≡ 4) → r .price < k .pv
 
 -- The trailer.
 pub record TrailerWithin (b : List ℕ) : Type 0 where

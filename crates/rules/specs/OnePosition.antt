@@ -99,9 +99,14 @@ abbrev pub unitBy : OptionType → Barrier → Series → Terms → ℕ
 unitBy Call bar s t = callUnit bar s t
 unitBy Put bar s t = putUnit bar s t
 
+-- "A row with flag 16 has unit margin REB if written" (document 02 [5]), without MM; others have it by their barrier.
+abbrev pub unitByFlag16 : Bool → Series → Terms → ℕ
+unitByFlag16 true s t = rebate t
+unitByFlag16 false s t = unitBy (s .option) (t .barrier) s t
+
 -- "Written, unit margin in fine units, first rule that applies", after flag 1.
 unfoldable pub unitMargin : Series → Position → ℕ
-unitMargin s p = unitBy (s .option) (normal p .barrier) s (normal p)
+unitMargin s p = unitByFlag16 (p .flags .knockedOut) s (normal p)
 
 -- "divided by 1,000,000 and rounded up once": from fine units times M and contracts to whole centavos.
 abbrev pub roundedUp : ℕ → ℕ

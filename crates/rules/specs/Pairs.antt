@@ -1,6 +1,6 @@
 -- Document 01, Pairs: which pairs are allowed, the order among them, and the pairing.
 use Prim.Native.Nat.{ℕ, zero, suc, _+_, _-_, min}
-use mathlib.Core.Bool.{Bool, true, false, cond, _&&_, _||_}
+use mathlib.Core.Bool.{Bool, true, false, cond, not, _&&_, _||_}
 use mathlib.Core.List.{List, [], _∷_, _++_}
 use lib.Dec.{eqb, ltb}
 use Rattle.rules.specs.File.{Account, seriesOfRow}
@@ -24,9 +24,10 @@ abbrev pub isHeld : Side → Bool
 isHeld Held = true
 isHeld Written = false
 
--- "both European or opened before the annex": each row is one or the other.
-abbrev pub europeanOrBeforeAnnex : Position → Bool
-europeanOrBeforeAnnex p = p .flags .european || p .flags .beforeAnnex
+-- "both European or opened before the annex": each row is one or the other. A row with flag 16 "is never paired" (document
+-- 02 [5]).
+abbrev pub mayBePaired : Position → Bool
+mayBePaired p = (p .flags .european || p .flags .beforeAnnex) && not (p .flags .knockedOut)
 
 -- "the written unit margin is greater than the spread's". A barred pair has none.
 abbrev pub lowers : ℕ → Spread → Bool
@@ -34,13 +35,13 @@ lowers unit Barred = false
 lowers unit (Margin spread) = ltb spread unit
 
 -- All of "allowed" but the contracts left: "one held and one written row of a series, both European or opened before
--- the annex", and the written unit margin greater than the spread's.
+-- the annex", neither with flag 16, and the written unit margin greater than the spread's.
 abbrev pub mayPair : Series → Position → Position → Bool
 mayPair s w h =
     isWritten (w .side)
     && isHeld (h .side)
     && eqb (w .series) (h .series)
-    && (europeanOrBeforeAnnex w && europeanOrBeforeAnnex h)
+    && (mayBePaired w && mayBePaired h)
     && lowers (unitMargin s w) (unitSpread s h w)
 
 -- "strike difference, without sign": one of the two differences is 0.

@@ -1,8 +1,8 @@
 -- Document 01, Paths: paths, touch and payment. The names, from the inside out: `payoffAt` is what the option is worth at
 -- the last price, without barriers; `inPayment`, `outPayment` and `paymentByBarrier` are what a normalised position pays on
--- a path; `payment` is document 01's payment, of any position. What rows pay out and pairs bring in is in `Promises`.
+-- a path, by its barrier; `payment` is document 01's payment, of any position. What rows pay out and pairs bring in is in `Promises`.
 use Prim.Native.Nat.{ℕ, _*_, _-_, _≤_, min, max}
-use mathlib.Core.Bool.{Bool, false, cond, _||_}
+use mathlib.Core.Bool.{Bool, true, false, cond, _||_}
 use mathlib.Core.List.{List, [], _∷_}
 use lib.Dec.{leb}
 use Rattle.rules.specs.OnePosition.{normal, rebate}
@@ -88,6 +88,11 @@ paymentByBarrier k (DownIn id) p l = inPayment k (atOrBelow id) p l
 paymentByBarrier k (UpOut ou) p l = outPayment k (atOrAbove ou) p l
 paymentByBarrier k (DownOut od) p l = outPayment k (atOrBelow od) p l
 
+-- A row with flag 16 "pays REB on every path" (document 02 [5]); others pay by their barrier.
+abbrev pub paymentByFlag16 : Bool → OptionType → Terms → List ℕ → ℕ
+paymentByFlag16 true k p l = rebate p
+paymentByFlag16 false k p l = paymentByBarrier k (p .barrier) p l
+
 -- What a position pays on a path of its series, "per unit, in fine units". A row with flag 1 is knocked in already.
 unfoldable pub payment : Series → Position → List ℕ → ℕ
-payment s p l = paymentByBarrier (s .option) (normal p .barrier) (normal p) l
+payment s p l = paymentByFlag16 (p .flags .knockedOut) (s .option) (normal p) l

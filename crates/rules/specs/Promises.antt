@@ -1,12 +1,12 @@
 -- Document 01, Paths: "Demand 3 means this, for every accepted file", each of its four bullets as a type.
 use Prim.Native.Nat.{ℕ, _+_, _*_, _-_, _≤_, _<_}
-use mathlib.Core.Bool.{false, cond, _&&_, _||_}
+use mathlib.Core.Bool.{true, false, cond, _&&_, _||_}
 use mathlib.Core.List.{List}
 use mathlib.Core.Path.{_≡_}
 use lib.Dec.{eqb}
 use Rattle.rules.specs.File.{Account, seriesOfRow}
 use Rattle.rules.specs.Lines.{lines, sumOver, sumTo, total}
-use Rattle.rules.specs.OnePosition.{unitMargin}
+use Rattle.rules.specs.OnePosition.{rebate, unitMargin}
 use Rattle.rules.specs.Pairs.{allowed, bookOf}
 use Rattle.rules.specs.Paths.{IsPath, payment}
 use Rattle.rules.specs.Quantities.{minimum}
@@ -78,16 +78,31 @@ abbrev pub Unmade : Account → Type 0
 Unmade a =
     (w h : ℕ) → w < a .positions → h < a .positions → allowed (bookOf a) (unpaired a) w h ≡ false
 
+-- A row with flag 16 "is never paired" (document 02 [5]): no contract of it stands in a pair line, all in its left line.
+abbrev pub NeverPaired : Account → Type 0
+NeverPaired a =
+    (r : ℕ) → r < a .positions → a .positionAt r .flags .knockedOut ≡ true
+    → (sumOver (pairQuantity r) (lines a) ≡ 0) × (sumOver (leftQuantity r) (lines a) ≡ a .positionAt r .q)
+
 -- "an amount per unit, in whole fine units, covers a position if it is at least the position's payment on every path
 -- of its series."
 abbrev pub Covers : Series → Position → ℕ → Type 0
 Covers s p amount = (path : List ℕ) → IsPath s path → payment s p path ≤ amount
 
+-- Of a row with flag 16 the "least amount is REB without the minimum" (document 02 [5]): its unit margin is REB, and every
+-- amount that covers it, at least MM or not, is at least that.
+abbrev pub LeastWithFlag16 : Series → Position → Type 0
+LeastWithFlag16 s p =
+    p .flags .knockedOut ≡ true
+    → (unitMargin s p ≡ rebate (p .terms)) × ((amount : ℕ) → Covers s p amount → unitMargin s p ≤ amount)
+
 -- "The unit margin of each written row covers it. Every other amount that covers it and is at least MM is, with one
 -- fine unit added, at least that unit margin."
 abbrev pub LeastFor : Series → Position → Type 0
 LeastFor s p =
-    Covers s p (unitMargin s p) × ((amount : ℕ) → Covers s p amount → minimum s ≤ amount → unitMargin s p ≤ amount + 1)
+    Covers s p (unitMargin s p)
+    × ((amount : ℕ) → Covers s p amount → minimum s ≤ amount → unitMargin s p ≤ amount + 1)
+    × LeastWithFlag16 s p
 
 abbrev pub Least : Account → Type 0
 Least a =
@@ -102,6 +117,9 @@ ContractsDemand b = (a : Account) → meaning b ≡ accepted a → Contracts a
 
 abbrev pub UnmadeDemand : List ℕ → Type 0
 UnmadeDemand b = (a : Account) → meaning b ≡ accepted a → Unmade a
+
+abbrev pub NeverPairedDemand : List ℕ → Type 0
+NeverPairedDemand b = (a : Account) → meaning b ≡ accepted a → NeverPaired a
 
 abbrev pub LeastDemand : List ℕ → Type 0
 LeastDemand b = (a : Account) → meaning b ≡ accepted a → LowFactors a → Least a

@@ -17,13 +17,13 @@ use Rattle.rules.specs.declared.PositionRead.{PositionRead}
 use Rattle.rules.specs.declared.PositionRead.the-variants.{Read, Unreadable}
 use Rattle.rules.specs.declared.PositionRow.{PositionRow}
 use Rattle.rules.specs.declared.Refusal.{Refusal}
-use Rattle.rules.specs.declared.Refusal.the-variants.{FileSize, Trailer, Distance, SeriesRange, SeriesType, PositionTerms, PositionRange, LimiterPrice, BarrierPrice, BarrierSide, ListTooShort, RowAskedFor, FactorsAskedFor}
+use Rattle.rules.specs.declared.Refusal.the-variants.{FileSize, Trailer, Distance, SeriesRange, SeriesType, PositionTerms, PositionRange, LimiterPrice, BarrierPrice, BarrierSide, ListTooShort, RowAskedFor, FactorsAskedFor, SeriesAskedFor, DayPrices}
 use Rattle.rules.specs.declared.SeriesRow.{SeriesRow}
 
 -- The table's column "Number". Refusals 1 to 11 are a file's and tested here; 12 is tested in `Lines.marginForList`, for
 -- the caller's list, and 13 in `OnePosition.amountForRow`, for the row asked for, each after the file. Document 02, request
 -- 1: "Refusal 3 is withdrawn." Its number is given to nothing else. Request 2's 14 is no file's: it is tested in `FactorsAre`
--- of crate factors.
+-- of crate factors. Request 5's 16 and 17 are a day's, tested in `Day.dayChecks` after the file. No request gives 15.
 abbrev pub number : Refusal → ℕ
 number FileSize = 1
 number Trailer = 2
@@ -38,6 +38,8 @@ number BarrierSide = 11
 number ListTooShort = 12
 number RowAskedFor = 13
 number FactorsAskedFor = 14
+number SeriesAskedFor = 16
+number DayPrices = 17
 
 -- x is not from least to most.
 abbrev pub outside : ℕ → ℕ → ℕ → Bool
@@ -74,9 +76,13 @@ wrongSeriesRange r =
 abbrev pub wrongSeriesType : SeriesRow → Bool
 wrongSeriesType r = ltb 1 (r .option) || nonzero (r .spare)
 
--- "Flags: 1 already knocked in (kinds 1 and 2 only) .. other bits zero." The four flags together are 15.
+-- "Flags: 1 already knocked in (kinds 1 and 2 only) .. other bits zero"; document 02 [5]: "A new flag 16, allowed on kinds 3
+-- and 4". The five flags together are 31.
 abbrev pub wrongFlags : PositionRow → Bool
-wrongFlags r = ltb 15 (r .flags) || (flagsOf (r .flags) .knockedIn && outside 1 2 (r .kind))
+wrongFlags r =
+    ltb 31 (r .flags)
+    || (flagsOf (r .flags) .knockedIn && outside 1 2 (r .kind))
+    || (flagsOf (r .flags) .knockedOut && outside 3 4 (r .kind))
 
 -- 7: "series, side, kind, flags or a spare byte wrong": series below s; side 0 or 1; kind 0 to 4.
 abbrev pub wrongTerms : ℕ → PositionRow → Bool
@@ -113,10 +119,10 @@ wrongBarrierPrice r =
     || (nonzero (r .kind) && outside 1 10_000_000 (r .price))
 
 -- 11: "barrier on the wrong side of PV": "above PV for kinds 1 and 3, below PV for kinds 2 and 4, except where flag 1
--- is set".
+-- is set"; a row with flag 16 "is exempt from refusal 11" (document 02 [5]).
 abbrev pub wrongBarrierSide : ℕ → PositionRow → Bool
 wrongBarrierSide pv r =
-    not (flagsOf (r .flags) .knockedIn)
+    (not (flagsOf (r .flags) .knockedIn) && not (flagsOf (r .flags) .knockedOut))
     && (((eqb (r .kind) 1 || eqb (r .kind) 3) && leb (r .price) pv)
     || ((eqb (r .kind) 2 || eqb (r .kind) 4) && leb pv (r .price)))
 

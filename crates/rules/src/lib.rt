@@ -96,12 +96,14 @@ pub struct Terms {
     pub reb: u32,
 }
 
-// A position row's flags, 1, 2, 4 and 8: already knocked in, has a limiter, European, opened before the annex.
+// A position row's flags, 1, 2, 4, 8 and 16: already knocked in, has a limiter, European, opened before the annex, knocked
+// out.
 pub struct Flags {
     pub knockedIn: bool,
     pub limited: bool,
     pub european: bool,
     pub beforeAnnex: bool,
+    pub knockedOut: bool,
 }
 
 // What a position row means. Its terms are as they stand in the row: flag 1 is not applied to them yet.
@@ -140,6 +142,8 @@ pub enum Refusal {
     ListTooShort,
     RowAskedFor,
     FactorsAskedFor,
+    SeriesAskedFor,
+    DayPrices,
 }
 
 // What a row's checks find.
@@ -187,6 +191,20 @@ pub struct Line {
     pub thirdNumber: u64,
     pub fourthNumber: u64,
     pub fifthNumber: u64,
+}
+
+// What a series did in a day: its high, low and close in ticks. Any numbers may be asked for.
+pub struct Day {
+    pub series: u64,
+    pub high: u64,
+    pub low: u64,
+    pub close: u64,
+}
+
+// A day for a file: applied, or the refusal with its row.
+pub enum DayAnswer {
+    Applied,
+    NotApplied(Refusal, usize),
 }
 
 // A file's margin: how many lines and the total in centavos, or the refusal with its row.

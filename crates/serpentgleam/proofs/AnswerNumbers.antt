@@ -6,12 +6,18 @@ use mathlib.Core.Path.{_≡_, refl, sym, ap, _∙_, subst}
 use native.Mathlib.Omega.{arith}
 use lib.ListN.{length}
 use Rattle.rules.proofs.Answers.{margin-accepted, margin-refused, margin-short, number-range, premium-accepted, premium-refused, room-enough}
+use Rattle.rules.proofs.DayAnswers.{day-done, day-no-series, day-of-refused, day-only, day-wrong-prices}
 use Rattle.rules.proofs.Demand3.{answered}
+use Rattle.rules.specs.Day.{DayWithin, dayAnswer}
 use Rattle.rules.specs.File.{Account}
 use Rattle.rules.specs.Lines.{lines, marginAnswer, premiumAnswer, premiums, total}
 use Rattle.rules.specs.Refusals.{accepted, meaning, number, refused}
+use Rattle.rules.specs.declared.Day.{Day}
+use Rattle.rules.specs.declared.DayAnswer.{DayAnswer}
+use Rattle.rules.specs.declared.DayAnswer.the-variants.{Applied, NotApplied}
 use Rattle.rules.specs.declared.MarginAnswer.{MarginAnswer}
 use Rattle.rules.specs.declared.MarginAnswer.the-variants.{NoTotal, Total}
+use Rattle.serpentgleam.specs.DayNumbers.{dayNumbers}
 use Rattle.serpentgleam.specs.MarginNumbers.{answerNumbers, marginNumbers}
 
 module _ (b : List ℕ) (n : ℕ) where
@@ -55,3 +61,30 @@ module _ (b : List ℕ) where
   refused-premiums k row e =
       let r = premium-refused b k row e in
       ap answerNumbers (r .2) ∙ ap (λ (x : ℕ). record { refusal = x; row = row; value = 0 }) (r .1)
+
+-- A day that `serpentgleam_day` is asked for: of a refused file its number and row; of an accepted one 16, 17 or 0.
+module _ (b : List ℕ) (d : Day) where
+  pub refused-day : (k row : ℕ) → meaning b ≡ refused k row → dayNumbers (dayAnswer b d) ≡ record { refusal = k; row = row; value = 0 }
+  refused-day k row e =
+      let r = day-of-refused b d k row e in
+      ap dayNumbers (r .2) ∙ ap (λ (x : ℕ). record { refusal = x; row = row; value = 0 }) (r .1)
+
+  module _ (a : Account) (e : meaning b ≡ accepted a) where
+    pub no-series-day : a .series ≤ d .series → dayNumbers (dayAnswer b d) ≡ record { refusal = 16; row = 0; value = 0 }
+    no-series-day h = ap dayNumbers (day-no-series b d a e h)
+
+    pub wrong-prices-day : d .series < a .series → (DayWithin (a .series) d → ⊥) → dayNumbers (dayAnswer b d) ≡ record { refusal = 17; row = 0; value = 0 }
+    wrong-prices-day h out = ap dayNumbers (day-wrong-prices b d a e h out)
+
+    pub applied-day : DayWithin (a .series) d → dayNumbers (dayAnswer b d) ≡ record { refusal = 0; row = 0; value = 0 }
+    applied-day w = ap dayNumbers (day-done b d a e w)
+
+  -- The other way round: refusal 0 is given only where the file is accepted and the day is within its limits.
+  pub no-day-refusal : dayNumbers (dayAnswer b d) .refusal ≡ 0 → (a : Account) × (meaning b ≡ accepted a) × DayWithin (a .series) d
+  no-day-refusal z = go (dayAnswer b d) refl
+    where
+      go : (x : DayAnswer) → dayAnswer b d ≡ x → (a : Account) × (meaning b ≡ accepted a) × DayWithin (a .series) d
+      go Applied e = day-only b d e
+      go (NotApplied w i) e =
+          let y : number w ≡ 0 = sym (ap (λ (x : DayAnswer). dayNumbers x .refusal) e) ∙ z in
+          absurd (omega (arith, number-range w))

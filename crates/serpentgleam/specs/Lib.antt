@@ -1,3 +1,4 @@
 -- What a C program is told.
 pub mod MarginNumbers
 pub mod FactorNumbers
+pub mod DayNumbers

@@ -1,5 +1,6 @@
 // The operations offered outside, as a C program calls them. `rt staticlib serpentgleam` writes the archive that a client
 // links; the header is include/serpentgleam.h.
+use day::apply_day;
 use factors::FactorsAnswer;
 use factors::factors;
 use lent::write_entries;
@@ -11,12 +12,16 @@ use position::amount::amount_for_row;
 use position::answer::signed;
 use refusals::refusal_number;
 use rules::AmountAnswer;
+use rules::Day;
+use rules::DayAnswer;
 use rules::Line;
 use rules::MarginAnswer;
 ghost use lib.ListN.{length};
 ghost use mathlib.Core.Path.{_≡_};
+ghost use Rattle.rules.specs.Day.{dayAnswer, fileAfter};
 ghost use Rattle.rules.specs.Lines.{listAfter, marginAnswer, premiumAnswer};
 ghost use Rattle.rules.specs.OnePosition.{amountAnswer, signedAnswer};
+ghost use Rattle.serpentgleam.specs.DayNumbers.{dayNumbers, dayOf};
 ghost use Rattle.serpentgleam.specs.FactorNumbers.{FactorsTold, factorNumbers};
 ghost use Rattle.serpentgleam.specs.MarginNumbers.{answerNumbers, marginNumbers};
 
@@ -50,7 +55,8 @@ fn numbers_of(answer: MarginAnswer) -> Margin
     }
 }
 
-// A number asked of a file, the header's `serpentgleam_answer`: 0, 0 and the number; or the refusal's number, its row and 0.
+// A number asked of a file, or a day applied to it, the header's `serpentgleam_answer`: 0, 0 and the number, 0 for a day; or
+// the refusal's number, its row and 0.
 #[repr(C)]
 pub struct Answer {
     pub refusal: u64,
@@ -68,6 +74,23 @@ fn answer_of(answer: AmountAnswer) -> Answer
             value,
         },
         AmountAnswer::NoAmount(why, row) => Answer {
+            refusal: refusal_number(why) as u64,
+            row: row as u64,
+            value: 0,
+        },
+    }
+}
+
+fn day_numbers(answer: DayAnswer) -> Answer
+    ensures { λ r. ⌜ r ≡ dayNumbers answer ⌝ }
+{
+    match answer {
+        DayAnswer::Applied => Answer {
+            refusal: 0,
+            row: 0,
+            value: 0,
+        },
+        DayAnswer::NotApplied(why, row) => Answer {
             refusal: refusal_number(why) as u64,
             row: row as u64,
             value: 0,
@@ -140,4 +163,27 @@ pub extern "C" fn serpentgleam_factors(code: u64, days: u64) -> FactorNumbers
     ensures { λ r. ⌜ FactorsTold code days r ⌝ }
 {
     factor_numbers(factors(code, days))
+}
+
+// The file brought up to date with the day of a series: the flags of the series' rows and its PV in the lent bytes, or the
+// refusal, on which they keep their content. Any bytes and any numbers may be handed over.
+#[no_mangle]
+pub extern "C" fn serpentgleam_day(
+    file: &mut [u8],
+    series: u64,
+    high: u64,
+    low: u64,
+    close: u64,
+) -> Answer
+    ensures numbers { λ r. ⌜ r ≡ dayNumbers (dayAnswer (now (file .entry)) (dayOf series high low close)) ⌝ }
+    ensures bytes { λ _. ⌜ now (file .exit) ≡ fileAfter (now (file .entry)) (dayOf series high low close) ⌝ }
+{
+    let d = Day {
+        series,
+        high,
+        low,
+        close,
+    };
+    let answer = apply_day(file, d);
+    day_numbers(answer)
 }

@@ -6,7 +6,7 @@ flags-of-requires : tie.Need-flags-of-requires
 flags-of-requires c κs = search needs
 
 returns : tie.Need-returns
-returns c = rw (c .before .before .before .before .before .before .before .flags-of .ensures)
+returns c = rw (c .before .before .before .before .before .before .before .before .flags-of .ensures)
 
 pub wrong-barrier-side-spec : {M : Type 1} → statement M
 wrong-barrier-side-spec =

@@ -5,23 +5,23 @@ use borrow.Author.Needs.{needs}
 use mathlib.Core.Path.{_∙_, sym}
 use native.Mathlib.Omega.{arith}
 
-european-or-before-annex-requires : tie.Need-european-or-before-annex-requires
-european-or-before-annex-requires c κs = search needs
+may-be-paired-requires : tie.Need-may-be-paired-requires
+may-be-paired-requires c κs = search needs
 
 side-role-requires : tie.Need-side-role-requires
 side-role-requires c κs = search needs
 
 returns : tie.Need-returns
-returns c = let e = role-pairs (c .before .before .before .args .fits) (c .before .before .before .args .p) (c .side-role .result) (sym (c .before .before .european-or-before-annex .ensures) ∙ c .before .if1 .taken) (c .side-role .ensures) in (e, omega (arith, e, role-most (c .before .before .before .args .fits) (c .before .before .before .args .p)))
+returns c = let e = role-pairs (c .before .before .before .args .fits) (c .before .before .before .args .p) (c .side-role .result) (sym (c .before .before .may-be-paired .ensures) ∙ c .before .if1 .taken) (c .side-role .ensures) in (e, omega (arith, e, role-most (c .before .before .before .args .fits) (c .before .before .before .args .p)))
 
 returns-2 : tie.Need-returns-2
-returns-2 c = (role-none (c .before .before .args .fits) (c .before .before .args .p) (sym (c .before .european-or-before-annex .ensures) ∙ c .if1 .left), omega arith)
+returns-2 c = (role-none (c .before .before .args .fits) (c .before .before .args .p) (sym (c .before .may-be-paired .ensures) ∙ c .if1 .left), omega arith)
 
 pub role-of-spec : {M : Type 1} → statement M
 role-of-spec =
     tie.close
     (tie.spec
-    european-or-before-annex-requires
+    may-be-paired-requires
     side-role-requires
     returns
     returns-2)
