@@ -52,8 +52,8 @@ prefix:
 	esac
 
 # Those of python/tests that need nothing but the library.
-TESTED = test_header test_premiums test_module test_factors test_no_positions test_command test_output test_text \
-    test_text_faults
+TESTED = test_header test_premiums test_module test_factors test_no_positions test_command \
+    test_output test_text test_text_faults test_day test_day_command test_knocked_out
 
 test: all
 	SERPENTGLEAM_LIBRARY='$(ARCHIVE)' bash clients/check.sh

@@ -1,11 +1,12 @@
 #!/usr/bin/env bash
 # Builds the static library unless SERPENTGLEAM_LIBRARY names one, compiles the C clients with warnings as errors, runs
-# them on the example accounts and on codes and days, and compares what they print with clients/expected.txt.
+# them on the example accounts, on codes and days and on days of a series, and compares what they print with
+# clients/expected.txt.
 set -eu
 cd "$(dirname "$0")/.."
 bash library/prove.sh
 archive=${SERPENTGLEAM_LIBRARY:-target/staticlib/libserpentgleam.a}
-for client in limit_screen collateral_call series_factors; do
+for client in limit_screen collateral_call series_factors end_of_day; do
     gcc -std=c11 -O2 -Wall -Wextra -Wpedantic -Werror -Iinclude -o "target/$client" "clients/$client.c" "$archive"
 done
 while read -r account row; do
@@ -20,5 +21,9 @@ while read -r code days; do
     printf '%s %s: ' "$code" "$days"
     target/series_factors "$code" "$days" || true
 done < clients/factor_questions.txt >> target/clients.out
+while read -r account series high low close; do
+    printf '%s %s %s %s %s: ' "$account" "$series" "$high" "$low" "$close"
+    target/end_of_day "examples/$account" "$series" "$high" "$low" "$close" || true
+done < clients/day_questions.txt >> target/clients.out
 diff clients/expected.txt target/clients.out
 echo "clients: $(wc -l < clients/expected.txt) lines as expected"

@@ -6,18 +6,11 @@
  *                             refusal, 2 where the words are wrong.
  */
 #include "serpentgleam.h"
+#include "whole_number.h"
 
 #include <inttypes.h>
 #include <stdio.h>
-#include <stdlib.h>
 #include <string.h>
-
-/* Gives 1 and the number of a word of digits, or 0. Of a number above UINT64_MAX it is UINT64_MAX, which is refused too. */
-static int whole_number(const char *word, uint64_t *number)
-{
-    *number = strtoull(word, NULL, 10);
-    return *word != '\0' && word[strspn(word, "0123456789")] == '\0';
-}
 
 /* Gives 1 and the number of a code by its name or its number, or 0. */
 static int code_number(const char *word, uint64_t *number)

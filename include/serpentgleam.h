@@ -8,15 +8,16 @@
  * call may be made from any thread, and calls on different threads do not affect each other. A call that takes a file needs
  * about 30 KB of stack or less, the one for factors about 8 KB.
  *
- * It reads the bytes handed over during the call alone, keeps no pointer to them and writes nothing to them; the caller
- * owns them before, during and after. The same holds of a list of lines, which it writes during the call alone and which
- * must not overlap the file's bytes.
+ * It reads the bytes handed over during the call alone and keeps no pointer to them; the caller owns them before, during
+ * and after. It writes nothing to a file's bytes, except in serpentgleam_day, which writes to the bytes lent to it during
+ * the call alone: until it is done they must not be handed to another call. The same holds of a list of lines, which
+ * serpentgleam_margin writes during the call alone and which must not overlap the file's bytes.
  *
  * An account file has at most 65,536 bytes. Any bytes may be handed over: a file that is not in order is refused, and
  * nothing is read outside it. With length 0 the pointer may be NULL.
  *
- * A refusal is a number from 1 to 14, below with a name for each; serpentgleam_refusal_sentence gives its sentence. The
- * number 3 is not used: an account without positions is accepted, with no lines, premiums 0 and total 0.
+ * A refusal is a number from 1 to 17, below with a name for each; serpentgleam_refusal_sentence gives its sentence. The
+ * numbers 3 and 15 are not used. An account without positions is accepted, with no lines, premiums 0 and total 0.
  */
 #ifndef SERPENTGLEAM_H
 #define SERPENTGLEAM_H
@@ -25,9 +26,9 @@
 #include <stdint.h>
 
 /* The version of this header and of the library that it came with. */
-#define SERPENTGLEAM_VERSION "0.4.0"
+#define SERPENTGLEAM_VERSION "0.5.0"
 #define SERPENTGLEAM_VERSION_MAJOR 0
-#define SERPENTGLEAM_VERSION_MINOR 4
+#define SERPENTGLEAM_VERSION_MINOR 5
 #define SERPENTGLEAM_VERSION_PATCH 0
 
 /* Limits of every account: bytes of its file, series, positions, and lines of its margin. */
@@ -47,7 +48,7 @@
 #define SERPENTGLEAM_OFV 3
 #define SERPENTGLEAM_MOST_DAYS 1800
 
-/* The refusals. No refusal has the number 3: before version 0.2.0 an account without positions was refused with it. */
+/* The refusals. None has the number 3 or 15: before version 0.2.0 an account without positions was refused with 3. */
 #define SERPENTGLEAM_REFUSED_FILE_SIZE 1
 #define SERPENTGLEAM_REFUSED_TRAILER 2
 #define SERPENTGLEAM_REFUSED_DISTANCE 4
@@ -61,6 +62,8 @@
 #define SERPENTGLEAM_REFUSED_LIST_TOO_SHORT 12
 #define SERPENTGLEAM_REFUSED_ROW_ASKED_FOR 13
 #define SERPENTGLEAM_REFUSED_FACTORS_ASKED_FOR 14
+#define SERPENTGLEAM_REFUSED_SERIES_ASKED_FOR 16
+#define SERPENTGLEAM_REFUSED_DAY_PRICES 17
 
 #ifdef __cplusplus
 extern "C" {
@@ -96,6 +99,10 @@ static inline const char *serpentgleam_refusal_sentence(uint64_t number)
         return "there is no position row of the number asked for";
     case SERPENTGLEAM_REFUSED_FACTORS_ASKED_FOR:
         return "there are no factors of the code and days asked for: code not 0 to 3, or days above 1,800";
+    case SERPENTGLEAM_REFUSED_SERIES_ASKED_FOR:
+        return "there is no series of the number asked for";
+    case SERPENTGLEAM_REFUSED_DAY_PRICES:
+        return "the day's prices: high below low, close outside them, or one of the three not 1 to 10,000,000";
     default:
         return "there is no refusal of this number";
     }
@@ -195,6 +202,25 @@ struct serpentgleam_factors {
  * The call and its struct share a name: in C++ too the type is written with the word struct before it.
  */
 struct serpentgleam_factors serpentgleam_factors(uint64_t code, uint64_t days);
+
+/*
+ * Brings an account file up to date after a day of one series.
+ *
+ * file, length: the account file's bytes, which are written to.
+ * series: the series row, counted from 0 in the order of the file.
+ * high, low, close: the day's prices in whole ticks.
+ *
+ * In the position rows of the series flag 1, already knocked in, is set where high is at or above an up-and-in barrier or
+ * low at or below a down-and-in one, and flag 16, already knocked out, where high is at or above an up-and-out barrier or
+ * low at or below a down-and-out one. PV of the series becomes close. No flag is taken away, and every other byte keeps its
+ * content. The file is then accepted as before, and the same day once more changes no byte.
+ *
+ * Answers value 0, or the refusal: that of the file; then SERPENTGLEAM_REFUSED_SERIES_ASKED_FOR where the account has no
+ * such series row; then SERPENTGLEAM_REFUSED_DAY_PRICES where high is below low, close is below low or above high, or one
+ * of the three is not 1 to 10,000,000. The last two have row 0. On a refusal every byte keeps its content.
+ */
+struct serpentgleam_answer serpentgleam_day(uint8_t *file, size_t length, uint64_t series, uint64_t high, uint64_t low,
+                                            uint64_t close);
 
 #ifdef __cplusplus
 }

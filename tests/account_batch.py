@@ -1,7 +1,9 @@
-"""Many accounts in one input, as margin_batch takes them; and the vectors, its input and output in the gate."""
+"""Many accounts in one input, as margin_batch takes them; the vectors, its input and output in the gate; and those of
+day_batch, which takes days and accounts.
+"""
 import os
 
-VECTORS = os.path.join(os.path.dirname(os.path.dirname(os.path.abspath(__file__))), 'crates', 'margin_batch')
+CRATES = os.path.join(os.path.dirname(os.path.dirname(os.path.abspath(__file__))), 'crates')
 
 
 def framed(files):
@@ -24,12 +26,27 @@ def answers_of(output):
     return output.decode().split('\n\n')[:-1]
 
 
-def vector_bytes(name):
-    """What stands in the vectors' file `stdin` or `stdout`."""
-    with open(os.path.join(VECTORS, name), 'rb') as file:
+def vector_bytes(name, program='margin_batch'):
+    """What stands in a program's file `stdin` or `stdout`."""
+    with open(os.path.join(CRATES, program, name), 'rb') as file:
         return file.read()
 
 
 def vectors():
     """The accounts of the reference, each with the reference's answer."""
     return list(zip(files_of(vector_bytes('stdin')), answers_of(vector_bytes('stdout')), strict=True))
+
+
+def days():
+    """The reference's days: an account, its day (series, high, low, close), the line for it, the account after it.
+
+    On standard input the day is four numbers of eight little-endian bytes before the account's own bytes; the output
+    has for each the line, `day` or `refused` with number and row, then the account and a line feed.
+    """
+    cases, output = [], vector_bytes('stdout', 'day_batch')
+    for case in files_of(vector_bytes('stdin', 'day_batch')):
+        numbers, file = [int.from_bytes(case[at:at + 8], 'little') for at in range(0, 32, 8)], case[32:]
+        line, output = output.split(b'\n', 1)
+        after, output = output[:len(file)], output[len(file) + 1:]
+        cases.append((file, numbers, line.decode(), after))
+    return cases

@@ -1,10 +1,10 @@
 #!/usr/bin/env python3
 """Compares the command `serpentgleam margin` with the program margin_batch on 20,000 account files.
 
-The files are the vectors, accepted ones with other quantities, strikes and premiums, and damaged ones. What the command
-prints as text, as JSON and as CSV is parsed back, and each answer is compared with the program's. Needs
-target/bin/margin_batch (`rt check`) and the shared object (library/shared_object.sh). Prints how many it compared, and
-every difference; exit status 1 where there is one.
+The files are the vectors, accepted ones with other quantities, strikes and premiums and with some knock-outs marked as
+already knocked out, and damaged ones. What the command prints as text, as JSON and as CSV is parsed back, and each
+answer is compared with the program's. Needs target/bin/margin_batch (`rt check`) and the shared object
+(library/shared_object.sh). Prints how many it compared, and every difference; exit status 1 where there is one.
 """
 import csv
 import io
@@ -27,14 +27,21 @@ BATCH = path('target', 'bin', 'margin_batch')
 COMMAND = [sys.executable, path('python', 'bin', 'serpentgleam'), 'margin', '-q', '-0', '--from', '-']
 LATIN_1 = b'\xe7\xe3'
 ODD_NAMES = (b'a b', b'a,b', b'"a"', b"'", b'a;b=', b'a' + LATIN_1, 'ação'.encode(), b'=1', b'a\tb', b'\\n')
+SMALL = (0, 1, 2, 3, 4, 8, 16, 20)  # bytes that are kinds, flags or counts
+KNOCKED_OUT = next(field for field in POSITION.fields if field.name == 'knocked-out')
 ORDER = {'pair': ('written', 'held', 'contracts', 'amount'), 'left': ('row', 'contracts', 'amount'),
          'premium': ('amount',), 'total': ('amount',), 'refused': ('number', 'row')}
+
+
+def marked(chance, row):
+    """A row, a knock-out at times marked as already knocked out."""
+    return {**row, KNOCKED_OUT.name: KNOCKED_OUT.bits} if row['kind'] in (3, 4) and chance.random() < 0.2 else row
 
 
 def changed(chance, account):
     """The file of an account with other quantities, strikes and premiums; few strikes, so that rows pair and tie."""
     least, most = chance.choice(((3000, 3005), (2900, 3300), (1, 10_000_000)))
-    rows = [dict(row, Q=chance.randint(1, 50), PE=chance.randint(least, most),
+    rows = [dict(marked(chance, row), Q=chance.randint(1, 50), PE=chance.randint(least, most),
                  premium=0 if row['side'] else chance.randint(0, 40)) for row in account.positions]
     chance.shuffle(rows)
     return file_of(account._replace(positions=rows))
@@ -46,7 +53,7 @@ def damaged(chance, data):
         return data[:chance.randrange(len(data) + 1)] if chance.random() < 0.5 else chance.randbytes(9) + data
     broken = bytearray(data)
     for _ in range(chance.randint(1, 3)):
-        broken[-1 - chance.randrange(min(len(data), 400))] = chance.choice((0, 1, 2, 3, 4, 8, chance.randrange(256)))
+        broken[-1 - chance.randrange(min(len(data), 400))] = chance.choice((*SMALL, chance.randrange(256)))
     return bytes(broken)
 
 
@@ -60,7 +67,7 @@ def account_files():
     while len(files) < FILES:
         files.append(changed(chance, chance.choice(accounts)))
         files.append(damaged(chance, chance.choice(small)))
-    return files
+    return files[:FILES]
 
 
 def write_files(folder, files):

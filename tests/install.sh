@@ -41,6 +41,17 @@ factors 0 0, refusal 14, row 0
 factors 0 0, refusal 14, row 0
 14: there are no factors of the code and days asked for: code not 0 to 3, or days above 1,800'
 
+# What it prints of days, of which only one changes the file, PV from 3000 to 3050; then the sentences at the end.
+days='day: refusal 16, row 0, value 0, bytes changed 0
+day: refusal 17, row 0, value 0, bytes changed 0
+day: refusal 1, row 0, value 0, bytes changed 0
+day: refusal 0, row 0, value 0, bytes changed 1
+day: refusal 0, row 0, value 0, bytes changed 0'
+sentences="16: there is no series of the number asked for
+17: the day's prices: high below low, close outside them, or one of the three not 1 to 10,000,000
+3: there is no refusal of this number
+15: there is no refusal of this number"
+
 version=$(sed -n 's/^#define SERPENTGLEAM_VERSION "\(.*\)"$/\1/p' include/serpentgleam.h)
 
 # The shared object follows the archive, also to one that is not newer.
@@ -86,7 +97,9 @@ amount 25000
 no list: refusal 12, row 0, lines 0, total 0
 refused 1 0: the file has fewer than 12 or more than 65,536 bytes
 $factors
-3: there is no refusal of this number
+$days
+total after it 11700
+$sentences
 EXPECTED
         LD_LIBRARY_PATH=$prefix/lib ./client "$top/examples/no_positions.account" > client.out
         same client.out "$language $way without positions" <<EXPECTED
@@ -98,7 +111,9 @@ amount -13
 no list: refusal 0, row 0, lines 0, total 0
 refused 1 0: the file has fewer than 12 or more than 65,536 bytes
 $factors
-3: there is no refusal of this number
+$days
+total after it 0
+$sentences
 EXPECTED
     done
 done
@@ -109,6 +124,9 @@ printf 'document.account\t%s\n' 'pair 0 2 3 0' 'pair 0 1 4 3000' 'left 0 3 7500'
     same command.out 'the installed command'
 "$prefix/bin/serpentgleam" factors FCI 720 > command.out
 echo '1863083 1085366' | same command.out 'the installed command'
+cp "$top/examples/before_the_day.account" .
+"$prefix/bin/serpentgleam" day before_the_day.account 0 3500 2700 2900 -o before_the_day.account
+cmp before_the_day.account "$top/examples/after_the_day.account" || wrong 'the installed command wrote another file'
 "$prefix/bin/serpentgleam" --version > command.out
 echo "serpentgleam $version" | same command.out 'the installed command'
 PYTHONPATH=$prefix/share/serpentgleam \

@@ -2,7 +2,8 @@
  * A small program for an installation to be tried with, as C and as C++: installed_client FILE prints the version, the
  * lines, premiums and total of the account file and its first row's amount, how many entries after the lines have kept
  * their content, and the answer where the list is NULL and has no entries; then the refusal of a file without bytes,
- * factors that are there and factors that are not, and what is said of the number 3, which no refusal has.
+ * factors that are there and factors that are not, days of series row 0 that are refused and one that is done twice, how
+ * many bytes each of them changed, the total after it, and what is said of the numbers 3 and 15, which no refusal has.
  */
 #include <serpentgleam.h>
 
@@ -11,6 +12,7 @@
 #include <string.h>
 
 static uint8_t file[SERPENTGLEAM_MOST_BYTES + 1];
+static uint8_t file_before[SERPENTGLEAM_MOST_BYTES + 1];
 static struct serpentgleam_line lines[SERPENTGLEAM_MOST_LINES];
 static struct serpentgleam_line before[SERPENTGLEAM_MOST_LINES];
 
@@ -46,6 +48,34 @@ static void print_all_factors(void)
            serpentgleam_refusal_sentence(SERPENTGLEAM_REFUSED_FACTORS_ASKED_FOR));
 }
 
+/* Puts a day into the file and prints the answer, and how many bytes it changed. */
+static void print_day(size_t length, uint64_t series, uint64_t high, uint64_t low, uint64_t close)
+{
+    struct serpentgleam_answer day;
+    size_t i, changed = 0;
+
+    memcpy(file_before, file, sizeof file);
+    day = serpentgleam_day(file, length, series, high, low, close);
+    for (i = 0; i < sizeof file; i++)
+        changed += file[i] != file_before[i];
+    printf("day: refusal %" PRIu64 ", row %" PRIu64 ", value %" PRIu64 ", bytes changed %u\n", day.refusal, day.row, day.value,
+           (unsigned)changed);
+}
+
+/* Prints what days do that are refused, and what one does that is done twice. */
+static void print_all_days(size_t length)
+{
+    print_day(length, UINT64_MAX, 3100, 2900, 3050);
+    print_day(length, 0, 2900, 3100, 3050);
+    print_day(0, 0, 3100, 2900, 3050);
+    print_day(length, 0, 3100, 2900, 3050);
+    print_day(length, 0, 3100, 2900, 3050);
+    printf("total after it %" PRIu64 "\n", serpentgleam_margin(file, length, lines, SERPENTGLEAM_MOST_LINES).total);
+    printf("%d: %s\n", SERPENTGLEAM_REFUSED_SERIES_ASKED_FOR,
+           serpentgleam_refusal_sentence(SERPENTGLEAM_REFUSED_SERIES_ASKED_FOR));
+    printf("%d: %s\n", SERPENTGLEAM_REFUSED_DAY_PRICES, serpentgleam_refusal_sentence(SERPENTGLEAM_REFUSED_DAY_PRICES));
+}
+
 int main(int count, char **words)
 {
     FILE *in = count == 2 ? fopen(words[1], "rb") : NULL;
@@ -78,6 +108,8 @@ int main(int count, char **words)
     printf("refused %" PRIu64 " %" PRIu64 ": %s\n", premiums.refusal, premiums.row,
            serpentgleam_refusal_sentence(premiums.refusal));
     print_all_factors();
+    print_all_days(length);
     printf("3: %s\n", serpentgleam_refusal_sentence(3));
+    printf("15: %s\n", serpentgleam_refusal_sentence(15));
     return 0;
 }

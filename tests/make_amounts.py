@@ -1,9 +1,10 @@
 #!/usr/bin/env python3
 """Writes the accounts that `position_amounts` is run on, and what it must write.
 
-Each case is an account file and the answer that document 01 gives it, stated by hand beside it: the amounts of its rows,
-or the reading's refusal. Most amounts are those of document 01, Checked values, starred or not: a unit margin in ticks
-times M 5 and Q 10. Run it from anywhere; `git status` shows no difference where nothing changed.
+Each case is an account file and the answer that document 01 gives it, for flag 16 with document 02 [5], stated by hand
+beside it: the amounts of its rows, or the reading's refusal. Most amounts are those of document 01, Checked values, starred
+or not: a unit margin in ticks times M 5 and Q 10. Run it from anywhere; `git status` shows no difference where nothing
+changed.
 """
 from accounts import CALL, EXAMPLE, PUT, account, last, one, position, series, write
 
@@ -41,6 +42,13 @@ def amounts(checked):
 
 ROWS_ON_THE_COVER = pack(SERIES, series()) + pack(POSITION, position(kind=9))
 LARGEST = account([series(10_000_000, 10_000_000, 0, 0, 1000)], [position(q=100_000, pe=1)])
+KNOCKED_OUT_CALLS = account(CALL, [position(kind=3, flags=20, price=3500, reb=40),
+                                   position(kind=4, flags=20, price=2500, reb=150),
+                                   position(kind=3, flags=20, price=2999),
+                                   position(kind=4, flags=20, price=3000, reb=600),
+                                   position(side=0, kind=3, flags=20, price=3500, reb=40, premium=20)])
+KNOCKED_OUT_PUTS = account(PUT, [position(kind=3, flags=20, price=3500, reb=40),
+                                 position(kind=4, flags=16, price=10_000_000, reb=10_000_000)])
 NO_POSITIONS = account(CALL + PUT, [], cover=b'all positions have expired\n')
 LIMITERS = account(CALL, [position(flags=6, pb=3400), position(side=0, flags=6, q=4, pe=3110, pb=3300),
                           position(side=0, flags=6, q=3, pe=3150, pb=3400), position(side=0, q=2, pe=3200),
@@ -53,6 +61,10 @@ ACCEPTED = [
     (EXAMPLE, [25_000, 0, 300]),
     # the largest payoff, M and Q: the product before the division is near 10^22
     (LARGEST, [9_999_999_900_000_000]),
+    # flag 16: the unit margin is REB, without MM, whichever side of PV the barrier is on; a held row's amount is its premium
+    (KNOCKED_OUT_CALLS, [2_000, 7_500, 0, 30_000, 1_000]),
+    # the same of puts; the highest barrier price and REB, and no flag beside 16
+    (KNOCKED_OUT_PUTS, [2_000, 500_000_000]),
     # one fine unit is rounded up once, not once a contract
     (account([series(1, 1_000_001, 0, 0, 1)], [position(q=100, pe=1)]), [1]),
     (account(CALL, [position()] * 256), [25_000] * 256),
@@ -135,6 +147,11 @@ REFUSED = [
     (one(kind=4, flags=5, price=2500), 'refused 7 0'),
     (one(spare=(1, 0, 0)), 'refused 7 0'),
     (last(spare=(0, 0, 255)), 'refused 7 2'),
+    # flag 16 with a knock-in, beside flag 1, and beside a bit without a meaning
+    (one(kind=1, flags=20, price=3500), 'refused 7 0'),
+    (one(kind=2, flags=20, price=2500), 'refused 7 0'),
+    (one(kind=3, flags=21, price=3500), 'refused 7 0'),
+    (last(kind=4, flags=52, price=2500), 'refused 7 2'),
     # 8: Q, PE, REB, premium
     (one(q=0), 'refused 8 0'),
     (one(q=100_001), 'refused 8 0'),
@@ -157,6 +174,9 @@ REFUSED = [
     (one(kind=1, price=10_000_001), 'refused 10 0'),
     (one(kind=1, flags=5, price=0), 'refused 10 0'),
     (last(kind=2, flags=5, price=10_000_001), 'refused 10 2'),
+    # flag 16 frees the barrier price from its side of PV, not from its range
+    (one(kind=3, flags=20, price=0), 'refused 10 0'),
+    (last(kind=4, flags=20, price=10_000_001), 'refused 10 2'),
     # 11: the side of PV
     (one(kind=1, price=3000), 'refused 11 0'),
     (one(kind=2, price=3000), 'refused 11 0'),

@@ -53,5 +53,6 @@ TABLE = [
     ('flags 1 and 4', 'flag 1 taken as European, flag 4 as already knocked in',
      flags_mixed_up('KNOCKED_IN', 1, 'EUROPEAN', 4)),
     ('flags of the next row', 'flags 4 and 8 taken from the row after', [(READER, READ, FLAGS_OF_NEXT_ROW + READ)]),
-    ('other flags', 'the four bits without a meaning not looked at', [(ROW, '            && self.flags & !known == 0\n', '')]),
+    ('other flags', 'the three bits without a meaning not looked at', [
+        (ROW, 'self.flags & !known == 0\n            && ', '')]),
 ]

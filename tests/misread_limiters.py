@@ -26,7 +26,7 @@ OF_WRITTEN = '''match written.limiter {
         Limiter::Absent => fine(%s),
     }'''
 D_CALL, D_PUT = 'min(pe_held, highest) - pe_written', 'pe_written - max(pe_held, lowest)'
-KNOCKED_IN = 'Terms { strike: self.strike, limiter: self.limiter, barrier: Barrier::None, rebate: 0 }'
+KNOCKED_IN = 'Terms { barrier: Barrier::None, rebate: 0, ..of_row }'
 
 
 def spread(*changes):
@@ -71,6 +71,6 @@ NOT_BARRED = [
     ('PBw limits D', 'the held strike no farther than PBw, in D',
      spread((D_CALL, at_most_written_limiter(D_CALL, 'min')), (D_PUT, at_most_written_limiter(D_PUT, 'max')))),
     ('flag 1 takes the limiter', 'a row already knocked in without its limiter too',
-     [(ACCOUNT, KNOCKED_IN, KNOCKED_IN.replace('self.limiter', 'Limiter::Absent'))]),
+     [(ACCOUNT, KNOCKED_IN, KNOCKED_IN.replace('{ barrier', '{ limiter: Limiter::Absent, barrier'))]),
 ]
 TABLE = BARRED + NOT_BARRED

@@ -11,7 +11,7 @@ PUT_OUT_UP = 'Barrier::UpAndOut(ou) if h < fine(ou) => max(mm, payoff(l)),'
 OUT = [CALL_OUT_DOWN, CALL_OUT_UP, PUT_OUT_DOWN, PUT_OUT_UP]
 EXACT = 'let exact = unit * m * quantity;'
 NO_REMAINDER = 'if whole * million == exact {'
-KNOCKED_IN = 'barrier: Barrier::None, rebate: 0 }'
+KNOCKED_IN = 'barrier: Barrier::None, rebate: 0, ..of_row }'
 
 
 def each(texts, old, new):

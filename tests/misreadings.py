@@ -4,11 +4,12 @@
 The tables stand in the files misread_*.py beside this one. A misreading there is a name, what is misread, and a list of
 changes: a file below reference/src, a text that stands in it exactly once, and the text put in its place. Each changed
 copy margins the reference's vectors (the accounts in crates/margin_batch/stdin); an account notices where its output is
-not that of crates/margin_batch/stdout. With a misreading of the factors it prints the list of all factors; a line
-notices where it is not that of crates/factors_list/stdout.
+not that of crates/margin_batch/stdout. With a misreading of the day it brings the files of crates/day_batch/stdin up to
+date; a case notices where its answer or the bytes after it are not those of crates/day_batch/stdout. With a misreading
+of the factors it prints the list of all factors; a line notices where it is not that of crates/factors_list/stdout.
 
-Needs cargo. Prints two tables in markdown, each with a summary. Exit status 1 where a misreading is noticed by no
-account, or by no line.
+Needs cargo. Prints three tables in markdown, each with a summary. Exit status 1 where a misreading is noticed by no
+account, by no case, or by no line.
 """
 import os
 import subprocess
@@ -16,8 +17,10 @@ import sys
 import tempfile
 from collections import namedtuple
 
+import misread_days
 import misread_factors
 import misread_file
+import misread_knocked_out
 import misread_limiters
 import misread_no_positions
 import misread_order
@@ -26,24 +29,40 @@ import misread_positions
 import misread_spreads
 from top import path
 
-from account_batch import answers_of, vector_bytes
+from account_batch import answers_of, files_of, vector_bytes
 
 # What notices, a program of the reference, its input, its output as a list of what can notice, and the misreadings.
 Noticing = namedtuple('Noticing', 'what program given parts_of expected tables')
 
-MODULES = ['account', 'factors', 'factors_list', 'lines', 'output', 'pairing', 'position', 'position_row', 'reader',
-           'spread']
+MODULES = ['account', 'day', 'factors', 'factors_list', 'lines', 'output', 'pairing', 'position', 'position_row',
+           'reader', 'spread']
 TABLES = [misread_positions, misread_spreads, misread_limiters, misread_pairs, misread_file, misread_no_positions,
-          misread_order]
+          misread_knocked_out, misread_order]
+DAY_BYTES = 32
 
 
 def by_accounts():
     return Noticing('account', 'margin_reference_batch', vector_bytes('stdin'), answers_of, vector_bytes('stdout'), TABLES)
 
 
+def by_cases_of_days():
+    given, expected = vector_bytes('stdin', 'day_batch'), vector_bytes('stdout', 'day_batch')
+
+    def answers(output):
+        """Of each case its line, and as many bytes after it as the file has."""
+        found, at = [], 0
+        for case in files_of(given):
+            end = output.index(b'\n', at) + 1 + len(case) - DAY_BYTES + 1
+            found.append(output[at:end])
+            at = end
+        return found
+
+    return Noticing('case', 'day_reference_batch', given, answers, expected, [misread_days])
+
+
 def by_lines_of_factors():
-    with open(path('crates', 'factors_list', 'stdout'), 'rb') as file:
-        return Noticing('line', 'factors_list', b'', bytes.splitlines, file.read(), [misread_factors])
+    expected = vector_bytes('stdout', 'factors_list')
+    return Noticing('line', 'factors_list', b'', bytes.splitlines, expected, [misread_factors])
 
 
 def sources(program):
@@ -84,7 +103,7 @@ def built(folder, program):
 
 
 def count_that_notice(noticing, texts, changes):
-    """How many accounts, or lines, have another output than expected."""
+    """How many accounts, cases or lines have another output than expected."""
     with tempfile.TemporaryDirectory() as folder:
         write(changed(texts, changes), folder)
         program = built(folder, noticing.program)
@@ -107,9 +126,11 @@ def print_table(noticing):
 
 
 def main():
-    noticed = [print_table(by_accounts())]
-    print()
-    noticed.append(print_table(by_lines_of_factors()))
+    noticed = []
+    for noticing in (by_accounts(), by_cases_of_days(), by_lines_of_factors()):
+        if noticed:
+            print()
+        noticed.append(print_table(noticing))
     return 0 if all(noticed) else 1
 
 

@@ -1,6 +1,7 @@
 //! Ways of choosing the pairs of an account, and the accounts that they are measured on. Reading, rules, lines and total
-//! are the reference's. Beside them the factors from the days, and how calls are timed.
+//! are the reference's. Beside them the factors from the days, a day and its accounts, and how calls are timed.
 
+pub mod day;
 pub mod factors;
 pub mod shapes;
 pub mod small;

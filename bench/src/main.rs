@@ -3,11 +3,13 @@
 
 use std::hint::black_box;
 
+use bench::day::{day_account, DAY};
 use bench::factors::Tables;
 use bench::pairs_in;
 use bench::shapes::{account, Shape, SHAPES};
 use bench::timing::{measure, rounds_asked};
 use bench::ways::{lanes, repeated_search, tournament};
+use reference::day::{apply_day, Day};
 use reference::factors::Factors;
 use reference::lines::{margin_into_by, Entry};
 use reference::position::one_position;
@@ -18,6 +20,7 @@ type Answer = Result<(usize, i64), Refusal>;
 type Program = fn(&[u8], &mut [Entry]) -> Answer;
 type PositionProgram = fn(&[u8], u64) -> i64;
 type FactorsProgram<'a> = &'a dyn Fn(u64, u64) -> Result<Factors, Refusal>;
+type DayProgram = fn(&mut [u8], &Day) -> Result<(), Refusal>;
 
 const PROGRAMS: [Program; 4] = [
     engine,
@@ -26,8 +29,9 @@ const PROGRAMS: [Program; 4] = [
     |file, list| margin_into_by(file, list, tournament::pairs),
 ];
 const POSITION_PROGRAMS: [PositionProgram; 2] = [library::position_amount, one_position];
+const DAY_PROGRAMS: [DayProgram; 2] = [engine_day, apply_day];
 const SIZES: [u32; 5] = [16, 32, 64, 128, 256];
-/// Calls in one measurement of the factors, the codes in turn: one call can be shorter than a look at the clock.
+/// Calls in one measurement of the factors, the codes in turn, or of a day: one call can be shorter than a look at the clock.
 const CALLS: usize = 100;
 
 fn engine(file: &[u8], list: &mut [Entry]) -> Answer {
@@ -145,6 +149,49 @@ fn factors_table(rounds: usize) {
     }
 }
 
+fn engine_day(file: &mut [u8], day: &Day) -> Result<(), Refusal> {
+    let answer = library::day(file, day.series, day.high, day.low, day.close);
+    match answer.refusal {
+        0 => Ok(()),
+        number => Err(Refusal { number: number as i64, row: answer.row as usize }),
+    }
+}
+
+/// The reference's answer and bytes must be the engine's, and the day must have changed the file.
+fn compare_day(file: &[u8]) {
+    let [engine, reference] = DAY_PROGRAMS.map(|program| {
+        let mut bytes = file.to_vec();
+        (program(&mut bytes, &DAY), bytes)
+    });
+    assert!(engine == reference, "a day: the programs differ");
+    assert!(engine.0.is_ok() && engine.1 != file);
+}
+
+/// What is measured is a day that sets flags. The same day once more would set none, so the file is copied anew before each
+/// call, over the bytes that the last call changed. The copy is part of both times, about a twentieth of the engine's.
+fn day_table(rounds: usize) {
+    println!("\n### A day of a series\n");
+    println!("Each call is on a fresh copy of the file, and the copying is included.\n");
+    println!("| rows | engine | reference | engine / reference |");
+    println!("|---|---|---|---|");
+    for size in SIZES {
+        let file = &day_account(size);
+        compare_day(file);
+        let [engine, reference] = &DAY_PROGRAMS.map(|program| {
+            move || {
+                let mut bytes = file.clone();
+                for _ in 0..CALLS {
+                    bytes.copy_from_slice(black_box(file));
+                    black_box(program(black_box(&mut bytes), black_box(&DAY))).ok();
+                }
+            }
+        });
+        let times = measure(rounds, [engine, reference]);
+        let [engine, reference] = times.map(|time| time / CALLS as f64);
+        println!("| {size} | {engine:.2} | {reference:.2} | {:.2} |", engine / reference);
+    }
+}
+
 fn main() {
     let rounds = rounds_asked(30);
     println!("Microseconds a call, the best of {rounds} bursts of a millisecond each.");
@@ -152,4 +199,5 @@ fn main() {
     growth_table(&engine);
     position_table(rounds);
     factors_table(rounds);
+    day_table(rounds);
 }

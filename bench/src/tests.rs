@@ -1,6 +1,11 @@
 //! Every way gives the lines and the total of the reference, and the tables its factors. Of the single positions of each kind
-//! at least a quarter are at the minimum margin and a quarter above it.
+//! at least a quarter are at the minimum margin and a quarter above it. The measured day touches about half of the barriers.
 
+use std::collections::HashSet;
+use std::mem::discriminant;
+
+use reference::account::Barrier;
+use reference::day::apply_day;
 use reference::factors::factors;
 use reference::factors_list::codes_and_days;
 use reference::lines::{margin_into, margin_into_by, Entry, Pairing};
@@ -9,6 +14,7 @@ use reference::random::Random;
 use reference::reader::read_account;
 use reference::sample::{limited_alike, sample_account, Shape};
 
+use crate::day::{day_account, DAY};
 use crate::factors::Tables;
 use crate::pairs_in;
 use crate::shapes::{account, SHAPES};
@@ -103,5 +109,32 @@ fn factors_from_tables() {
     let tables = Tables::default();
     for (code, days) in codes_and_days() {
         assert_eq!(tables.factors(code, days), factors(code, days), "{code} {days}");
+    }
+}
+
+/// How many rows have a barrier, and how many of these have flag 1 or 16.
+fn barriers_and_touched(file: &[u8]) -> (usize, usize) {
+    let account = read_account(file).unwrap();
+    let barriers = account.positions.iter().filter(|row| row.barrier != Barrier::None);
+    let touched = barriers.clone().filter(|row| row.already_knocked_in || row.already_knocked_out);
+    (barriers.count(), touched.count())
+}
+
+#[test]
+fn the_day_touches_about_half_of_the_barriers() {
+    for size in [16, 32, 64, 128, 256] {
+        let mut file = day_account(size);
+        let account = read_account(&file).unwrap();
+        let kinds: HashSet<_> =
+            account.positions.iter().map(|row| discriminant(&row.barrier)).collect();
+        assert_eq!((account.series.len(), account.positions.len()), (1, size as usize));
+        assert_eq!(kinds.len(), 5, "{size} rows: the kinds of barrier and none");
+
+        let (barriers, touched) = barriers_and_touched(&file);
+        assert_eq!(touched, 0, "{size} rows: touched before the day");
+        assert_eq!(apply_day(&mut file, &DAY), Ok(()));
+        let (_, touched) = barriers_and_touched(&file);
+        let about_half = barriers / 3..=2 * barriers / 3;
+        assert!(about_half.contains(&touched), "{size} rows: {touched} of {barriers}");
     }
 }

@@ -1,5 +1,8 @@
 //! Deliberately changed answers, to see that the comparison finds them.
 
+use reference::day::Day;
+
+use crate::changed_days::{change_answer, change_applied, change_refused, day_asked, write_beside};
 use crate::implementation::{Answer, Factors, Implementation, Line, Margin};
 
 #[derive(Clone, Copy, Debug, PartialEq, Eq)]
@@ -26,11 +29,27 @@ pub enum Change {
     CodeCut,
     DaysCut,
     FactorsOnRefusal,
+    DayTouchStrict,
+    DayTouchLoose,
+    DayOtherSeries,
+    DayToggles,
+    DayPv,
+    DayPvHigh,
+    DayCover,
+    DayAgain,
+    DayValue,
+    DayRefusal,
+    DayRefusalRow,
+    DayReadingLast,
+    DayOnRefusal,
+    DaySeriesCut,
+    DayPricesCut,
+    DayBeside,
     FileWritten,
     ReadingOutside,
 }
 
-pub const CHANGES: [(&str, Change); 24] = [
+pub const CHANGES: [(&str, Change); 40] = [
     ("total", Change::Total),
     ("line-count", Change::LineCount),
     ("line-amount", Change::LineAmount),
@@ -53,6 +72,22 @@ pub const CHANGES: [(&str, Change); 24] = [
     ("code-cut", Change::CodeCut),
     ("days-cut", Change::DaysCut),
     ("factors-on-refusal", Change::FactorsOnRefusal),
+    ("day-touch-strict", Change::DayTouchStrict),
+    ("day-touch-loose", Change::DayTouchLoose),
+    ("day-other-series", Change::DayOtherSeries),
+    ("day-toggles", Change::DayToggles),
+    ("day-pv", Change::DayPv),
+    ("day-pv-high", Change::DayPvHigh),
+    ("day-cover", Change::DayCover),
+    ("day-again", Change::DayAgain),
+    ("day-value", Change::DayValue),
+    ("day-refusal", Change::DayRefusal),
+    ("day-refusal-row", Change::DayRefusalRow),
+    ("day-reading-last", Change::DayReadingLast),
+    ("day-on-refusal", Change::DayOnRefusal),
+    ("day-series-cut", Change::DaySeriesCut),
+    ("day-prices-cut", Change::DayPricesCut),
+    ("day-beside", Change::DayBeside),
     ("file-written", Change::FileWritten),
     ("reading-outside", Change::ReadingOutside),
 ];
@@ -75,7 +110,7 @@ impl Implementation for Changed<'_> {
         if margin.refusal == 0 {
             change_accepted(self.change, &mut margin, entries);
         } else {
-            change_refused(self.change, &mut margin, entries, room);
+            change_list_refused(self.change, &mut margin, entries, room);
         }
         match self.change {
             Change::EntryAfterLines if margin.refusal == 0 && lines < room => {
@@ -124,6 +159,20 @@ impl Implementation for Changed<'_> {
             _ => factors,
         }
     }
+
+    fn day(&self, file: &mut [u8], day: &Day) -> Answer {
+        let before = file.to_vec();
+        let asked = day_asked(self.change, day);
+        let answer = self.of.day(file, &asked);
+        match answer.refusal {
+            0 => change_applied(self.change, &before, file, &asked),
+            _ => change_refused(self.change, file),
+        }
+        if self.change == Change::DayBeside {
+            write_beside(file);
+        }
+        change_answer(self.change, day, answer)
+    }
 }
 
 fn change_accepted(change: Change, margin: &mut Margin, entries: &mut [Line]) {
@@ -142,7 +191,7 @@ fn change_accepted(change: Change, margin: &mut Margin, entries: &mut [Line]) {
     }
 }
 
-fn change_refused(change: Change, margin: &mut Margin, entries: &mut [Line], room: usize) {
+fn change_list_refused(change: Change, margin: &mut Margin, entries: &mut [Line], room: usize) {
     match change {
         Change::RefusalNumber if margin.refusal == 9 => margin.refusal = 8,
         Change::RefusalRow if margin.row > 0 => margin.row -= 1,

@@ -2,12 +2,14 @@
 
 use std::fmt;
 
-use reference::reader::read_account;
+use reference::day::Day;
+use reference::reader::{distance, read_account, TRAILER_BYTES};
 
 use crate::codes_and_days::expectation;
+use crate::days::days;
 use crate::files::File;
 use crate::implementation::{self, Factors, Implementation, Line, Margin};
-use crate::lending::Lending;
+use crate::lending::{Lending, Place};
 use crate::questions::{questions, Question};
 use crate::summary::Summary;
 
@@ -21,12 +23,15 @@ pub enum Answer {
     Amount(i64),
     Premiums(implementation::Answer),
     Factors(Factors),
+    /// With the file's bytes after it.
+    Day(implementation::Answer, Vec<u8>),
 }
 
 #[derive(Clone, Debug, PartialEq, Eq)]
 pub enum Difference {
     Answers { question: Question, reference: Answer, library: Answer },
     FileWrittenTo { question: Question },
+    WrittenBeside { question: Question },
 }
 
 /// Stops at the first difference. What was compared is added to the summary.
@@ -37,7 +42,11 @@ pub fn compare_file(
     lending: &mut Lending,
     summary: &mut Summary,
 ) -> Result<(), Box<Difference>> {
-    let position_count = read_account(&file.bytes).map(|account| account.positions.len());
+    let reading = read_account(&file.bytes);
+    let position_count = match &reading {
+        Ok(account) => Ok(account.positions.len()),
+        Err(refusal) => Err(*refusal),
+    };
     let copies = lending.lend(&file.bytes);
     let mut turn = file.number as usize;
     for (question, purpose) in questions(file.seed_of_questions, position_count.ok()) {
@@ -50,8 +59,56 @@ pub fn compare_file(
         }
         summary.add_answer(&expected, purpose);
     }
+    for day in days(file.seed_of_questions, reading.ok().as_ref()) {
+        turn += 1;
+        let place = [Place::BehindForbidden, Place::BeforeForbidden][turn % 2];
+        compare_day(&file.bytes, (day, place), reference, library, lending, summary)?;
+    }
     summary.add_file(file, position_count);
     Ok(())
+}
+
+/// The same for a day. The library applies it twice, which is to alter nothing more.
+fn compare_day(
+    file: &[u8],
+    (day, place): (Day, Place),
+    reference: &dyn Implementation,
+    library: &dyn Implementation,
+    lending: &mut Lending,
+    summary: &mut Summary,
+) -> Result<(), Box<Difference>> {
+    let mut after = file.to_vec();
+    let answer = reference.day(&mut after, &day);
+    let outcome = outcome(&answer, file, &after);
+    let expected = Answer::Day(answer, after);
+    let copy = lending.lend_to_write(file, place);
+    for question in [Question::Day(day), Question::SameDay(day)] {
+        let found = library.day(copy, &day);
+        same(question, &expected, Answer::Day(found, copy.to_vec()))?;
+        summary.add_answer(&expected, outcome);
+    }
+    if !lending.marks_kept(file.len(), place) {
+        return Err(Box::new(Difference::WrittenBeside { question: Question::Day(day) }));
+    }
+    Ok(())
+}
+
+/// What came of a day. Where a byte of the position rows is altered, a flag was set.
+fn outcome(answer: &implementation::Answer, before: &[u8], after: &[u8]) -> &'static str {
+    match answer.refusal {
+        0 if position_rows(before) != position_rows(after) => "flags set",
+        0 => "no flag set",
+        16 => "no such series",
+        17 => "no such prices",
+        _ => "refused file",
+    }
+}
+
+/// The bytes from the first position row on, of an accepted file.
+fn position_rows(file: &[u8]) -> &[u8] {
+    let count_at = file.len() - TRAILER_BYTES + 2;
+    let count = u16::from_le_bytes([file[count_at], file[count_at + 1]]);
+    &file[file.len() - distance(0, count.into())..]
 }
 
 /// The same for one code and number of days.
@@ -86,6 +143,10 @@ fn answer(implementation: &dyn Implementation, file: &[u8], question: Question) 
         Question::Amount { row } => Answer::Amount(implementation.position_amount(file, row)),
         Question::Premiums => Answer::Premiums(implementation.premiums(file)),
         Question::Factors { code, days } => Answer::Factors(implementation.factors(code, days)),
+        Question::Day(day) | Question::SameDay(day) => {
+            let mut bytes = file.to_vec();
+            Answer::Day(implementation.day(&mut bytes, &day), bytes)
+        }
     }
 }
 
@@ -100,6 +161,9 @@ impl fmt::Display for Difference {
         match self {
             Difference::FileWrittenTo { question } => {
                 write!(out, "asked: {question:?}\nthe file's bytes were written to")
+            }
+            Difference::WrittenBeside { question } => {
+                write!(out, "asked: {question:?}\nbytes beside the file were written to")
             }
             Difference::Answers { question, reference, library } => {
                 writeln!(out, "asked: {question:?}")?;
@@ -117,19 +181,33 @@ fn first_part(answer: &Answer) -> String {
         Answer::Amount(amount) => format!("{amount}"),
         Answer::Premiums(premiums) => format!("{premiums:?}"),
         Answer::Factors(factors) => format!("{factors:?}"),
+        Answer::Day(answer, _) => format!("{answer:?}"),
     }
 }
 
-/// The first entry of the list that differs, if there is one.
+/// The first entry of the list, or byte of the file, that differs, if there is one.
 fn write_other_entry(out: &mut fmt::Formatter, one: &Answer, other: &Answer) -> fmt::Result {
-    let (Answer::Margin(_, expected), Answer::Margin(_, found)) = (one, other) else {
-        return Ok(());
-    };
-    match expected.iter().zip(found).position(|(e, f)| e != f) {
+    match (one, other) {
+        (Answer::Margin(_, expected), Answer::Margin(_, found)) => {
+            write_first_other(out, "entry", expected, found)
+        }
+        (Answer::Day(_, expected), Answer::Day(_, found)) => {
+            write_first_other(out, "byte", expected, found)
+        }
+        _ => Ok(()),
+    }
+}
+
+fn write_first_other<T: PartialEq + fmt::Debug>(
+    out: &mut fmt::Formatter,
+    what: &str,
+    expected: &[T],
+    found: &[T],
+) -> fmt::Result {
+    match expected.iter().zip(found).enumerate().find(|(_, (e, f))| e != f) {
         None => Ok(()),
-        Some(at) => {
-            let (expected, found) = (expected[at], found[at]);
-            write!(out, "\nentry {at}, reference: {expected:?}\nentry {at}, library: {found:?}")
+        Some((at, (expected, found))) => {
+            write!(out, "\n{what} {at}, reference: {expected:?}\n{what} {at}, library: {found:?}")
         }
     }
 }

@@ -1,6 +1,7 @@
 //! What both implementations are asked through, in the form of the C header.
 
 pub use library::{Answer, Factors, Line, Margin};
+use reference::day::{apply_day, Day};
 use reference::factors::factors;
 use reference::lines::{margin_into, premiums};
 use reference::position::one_position;
@@ -14,6 +15,9 @@ pub trait Implementation {
     fn premiums(&self, file: &[u8]) -> Answer;
 
     fn factors(&self, code: u64, days: u64) -> Factors;
+
+    /// The file is left as it is after the day.
+    fn day(&self, file: &mut [u8], day: &Day) -> Answer;
 }
 
 pub struct Reference;
@@ -51,6 +55,15 @@ impl Implementation for Reference {
             Ok(given) => Factors { refusal: 0, row: 0, fa: given.fa as u64, fb: given.fb as u64 },
             Err(refusal) => {
                 Factors { refusal: refusal.number as u64, row: refusal.row as u64, fa: 0, fb: 0 }
+            }
+        }
+    }
+
+    fn day(&self, file: &mut [u8], day: &Day) -> Answer {
+        match apply_day(file, day) {
+            Ok(()) => Answer { refusal: 0, row: 0, value: 0 },
+            Err(refusal) => {
+                Answer { refusal: refusal.number as u64, row: refusal.row as u64, value: 0 }
             }
         }
     }

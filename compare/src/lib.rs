@@ -6,16 +6,19 @@
 //! 2. [`random_files`], [`structured`], [`damage`]: the families
 //! 3. [`implementation`]: what both implementations are asked through
 //! 4. [`questions`]: what is asked about a file
-//! 5. [`codes_and_days`]: what the factors are asked for
-//! 6. [`lending`]: the memory in which the library gets a file
-//! 7. [`comparison`]: both answers to each question
-//! 8. [`summary`]: what was compared
-//! 9. [`changes`]: deliberately changed answers, to see that they are found
+//! 5. [`days`]: the days that a file is brought up to date with
+//! 6. [`codes_and_days`]: what the factors are asked for
+//! 7. [`lending`]: the memory in which the library gets a file
+//! 8. [`comparison`]: both answers to each question
+//! 9. [`summary`]: what was compared
+//! 10. [`changes`] and [`changed_days`]: deliberately changed answers, to see that they are found
 
+pub mod changed_days;
 pub mod changes;
 pub mod codes_and_days;
 pub mod comparison;
 pub mod damage;
+pub mod days;
 pub mod files;
 pub mod implementation;
 pub mod lending;

@@ -1,6 +1,7 @@
 //! The library that the program is linked with.
 
 use compare::implementation::{Answer, Factors, Implementation, Line, Margin};
+use reference::day::Day;
 
 pub struct Library;
 
@@ -19,5 +20,10 @@ impl Implementation for Library {
 
     fn factors(&self, code: u64, days: u64) -> Factors {
         library::factors(code, days)
+    }
+
+    fn day(&self, file: &mut [u8], day: &Day) -> Answer {
+        let Day { series, high, low, close } = *day;
+        library::day(file, series, high, low, close)
     }
 }

@@ -1,5 +1,6 @@
 //! What is asked: about a file, or for the factors.
 
+use reference::day::Day;
 use reference::random::Random;
 
 #[derive(Clone, Copy, Debug, PartialEq, Eq)]
@@ -12,6 +13,10 @@ pub enum Question {
     Premiums,
     /// The factors, about no file.
     Factors { code: u64, days: u64 },
+    /// The file after a day.
+    Day(Day),
+    /// The file after the same day once more.
+    SameDay(Day),
 }
 
 /// A question, and what it is asked for.

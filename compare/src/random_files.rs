@@ -1,7 +1,9 @@
 //! Bytes at random, and rows whose fields are drawn at random about their ranges.
 
-use reference::draft::{trailer_for, Draft, PositionDraft, SeriesDraft, HELD};
-use reference::position_row::FLAG_LIMITER;
+use reference::draft::{
+    trailer_for, Draft, PositionDraft, SeriesDraft, DOWN_AND_IN, HELD, UP_AND_IN,
+};
+use reference::position_row::{FLAG_KNOCKED_IN, FLAG_KNOCKED_OUT, FLAG_LIMITER};
 use reference::random::Random;
 
 use crate::files::{random_bytes, weighted};
@@ -118,10 +120,18 @@ fn random_position(random: &mut Random, all_series: &[SeriesDraft]) -> PositionD
         let up = row.kind % 2 == 1 || random.chance(2);
         row.barrier = (if up { pv + beside } else { pv - beside }).max(0) as u32;
         row.rebate = about(random, 0, pv.clamp(1, HIGHEST));
-        row.flags |= random.pick(&[0, 0, 0, 0, 0, 1]);
+        row.flags |= flag_of_a_day(random, row.kind);
     }
     if random.chance(1) {
         row.flags = random.draw() as u8;
     }
     row
+}
+
+/// Now and then flag 1 or 16, seldom the one that the kind may not have.
+fn flag_of_a_day(random: &mut Random, kind: u8) -> u8 {
+    let own =
+        if kind == UP_AND_IN || kind == DOWN_AND_IN { FLAG_KNOCKED_IN } else { FLAG_KNOCKED_OUT };
+    let other = FLAG_KNOCKED_IN + FLAG_KNOCKED_OUT - own;
+    weighted(random, &[(160, 0), (38, own), (1, other), (1, own | other)])
 }

@@ -1,9 +1,9 @@
 //! Accepted accounts of various shapes, with cover sheets. In many of them limiters stand at and
-//! beside each other.
+//! beside each other, and in many some knock-outs were touched on an earlier day.
 
 use reference::draft::Draft;
 use reference::random::Random;
-use reference::sample::{limited_alike, sample_account, sample_series, Shape};
+use reference::sample::{limited_alike, sample_account, sample_series, some_knocked_out, Shape};
 
 use crate::files::{random_bytes, weighted, LONGEST_FILE};
 
@@ -63,6 +63,9 @@ pub fn structured_draft(random: &mut Random) -> (&'static str, Draft) {
     let mut draft = sample_account(random, &shape);
     if random.chance(40) {
         draft = limited_alike(random, draft);
+    }
+    if random.chance(40) {
+        draft = some_knocked_out(random, draft);
     }
     draft.cover = cover_sheet(random, &draft, &shape);
     (name, draft)

@@ -28,6 +28,7 @@ pub struct Summary {
     amount_calls: Tally,
     premium_calls: u64,
     factors_calls: Tally,
+    day_calls: Tally,
     lines: u64,
     entries_kept: u64,
 }
@@ -68,6 +69,7 @@ impl Summary {
             Answer::Amount(_) => self.amount_calls.add(purpose),
             Answer::Premiums(_) => self.premium_calls += 1,
             Answer::Factors(_) => self.factors_calls.add(purpose),
+            Answer::Day(..) => self.day_calls.add(purpose),
             Answer::Margin(margin, entries) => {
                 self.margin_calls.add(purpose);
                 self.lines += margin.lines;
@@ -111,6 +113,8 @@ impl fmt::Display for Summary {
         writeln!(out, "serpentgleam_premiums: {} calls", self.premium_calls)?;
         let calls = self.factors_calls.total();
         writeln!(out, "serpentgleam_factors: {calls} calls: {}", self.factors_calls)?;
+        let calls = self.day_calls.total();
+        writeln!(out, "serpentgleam_day: {calls} calls: {}", self.day_calls)?;
         write!(out, "{} files, 0 differences", self.files)
     }
 }

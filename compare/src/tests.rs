@@ -2,13 +2,15 @@
 
 use std::collections::{BTreeMap, BTreeSet};
 
-use reference::account::{Account, Limiter, OptionType};
+use reference::account::{Account, Barrier, Limiter, OptionType, Side};
+use reference::day::{apply_day, Day};
 use reference::lines::margin;
 use reference::reader::{distance, read_account};
 
 use crate::changes::{Change, Changed, CHANGES};
 use crate::codes_and_days::{asked_once, drawn, expectation};
 use crate::comparison::{compare_factors, compare_file, Difference};
+use crate::days::days;
 use crate::files::{file, Family, File, LONGEST_FILE};
 use crate::implementation::{Implementation, Reference};
 use crate::lending::Lending;
@@ -105,6 +107,22 @@ fn has_cover(file: &File, account: &Account) -> bool {
     file.bytes.len() > distance(account.series.len(), account.positions.len())
 }
 
+/// Held and written, of both kinds, on either side of PV.
+#[test]
+fn some_knock_outs_were_touched() {
+    let mut found = BTreeSet::new();
+    for file in files_of(Family::Structured, 3_000) {
+        let account = read_account(&file.bytes).expect("accepted");
+        for position in account.positions.iter().filter(|p| p.already_knocked_out) {
+            let price = position.barrier.price().expect("a barrier");
+            let up = matches!(position.barrier, Barrier::UpAndOut(_));
+            let pv = account.series[position.series].pv;
+            found.insert((position.side == Side::Held, up, price.cmp(&pv)));
+        }
+    }
+    assert_eq!(found.len(), 2 * 2 * 3);
+}
+
 /// How the limiters of a pair stand to each other.
 fn limiters(option_type: OptionType, held: Limiter, written: Limiter) -> &'static str {
     match (held, written) {
@@ -145,7 +163,7 @@ fn limiters_stand_on_both_sides_of_pairs() {
 #[test]
 fn some_structured_files_have_no_rows() {
     let mut shapes = BTreeSet::new();
-    for file in files_of(Family::Structured, 20_000).filter(says_no_positions) {
+    for file in files_of(Family::Structured, 30_000).filter(says_no_positions) {
         let account = read_account(&file.bytes).expect("accepted");
         assert!(account.positions.is_empty());
         shapes.insert((account.series.len(), has_cover(&file, &account)));
@@ -187,6 +205,54 @@ fn damaged_files_are_accepted_or_refused_with_every_number() {
     assert_eq!(kinds(Family::Damaged, 20_000).len(), 10);
     let counts: BTreeSet<usize> = files_of(Family::Damaged, 500).map(|f| f.kinds.len()).collect();
     assert_eq!(counts, (1..=4).collect());
+}
+
+/// By how much a day passes the barriers of its series, of each kind.
+fn passed<'a>(account: &'a Account, day: &'a Day) -> impl Iterator<Item = (u8, i64)> + 'a {
+    let (high, low) = (day.high as i64, day.low as i64);
+    let own = account.positions.iter().filter(|p| p.series as u64 == day.series);
+    own.filter_map(move |position| match position.barrier {
+        Barrier::None => None,
+        Barrier::UpAndIn(price) => Some((1, high - price)),
+        Barrier::DownAndIn(price) => Some((2, price - low)),
+        Barrier::UpAndOut(price) => Some((3, high - price)),
+        Barrier::DownAndOut(price) => Some((4, price - low)),
+    })
+}
+
+#[test]
+fn days_of_accepted_files_are_various() {
+    let mut outcomes: BTreeMap<i64, usize> = BTreeMap::new();
+    let mut passed_by: BTreeMap<(u8, i64), usize> = BTreeMap::new();
+    for file in files_of(Family::Structured, 3_000) {
+        let account = read_account(&file.bytes).expect("accepted");
+        for day in days(file.seed_of_questions, Some(&account)) {
+            let answer = apply_day(&mut file.bytes.clone(), &day);
+            *outcomes.entry(answer.map_or_else(|r| r.number, |()| 0)).or_default() += 1;
+            if answer.is_ok() {
+                for (kind, by) in passed(&account, &day) {
+                    *passed_by.entry((kind, by.clamp(-2, 2))).or_default() += 1;
+                }
+            }
+        }
+    }
+    assert_eq!(outcomes.keys().copied().collect::<Vec<_>>(), [0, 16, 17]);
+    assert!(outcomes.values().all(|count| *count > 1_000), "{outcomes:?}");
+    // Missed by far and by a tick, met exactly, passed by a tick and by far.
+    assert_eq!(passed_by.len(), 4 * 5);
+    assert!(passed_by.values().all(|count| *count > 50), "{passed_by:?}");
+}
+
+#[test]
+fn days_of_refused_files_are_asked_too() {
+    for seed in 0..100 {
+        let asked = days(seed, None);
+        assert_eq!(asked.len(), 2);
+        assert_eq!(asked, days(seed, None));
+    }
+    let spoiled: Vec<Day> = (0..100).map(|seed| days(seed, None)[1]).collect();
+    assert!(spoiled.iter().any(|day| day.series > u32::MAX.into()));
+    assert!(spoiled.iter().any(|day| day.high < day.low));
 }
 
 #[test]
@@ -246,6 +312,7 @@ fn the_reference_does_not_differ_from_itself() {
     assert!(text.ends_with("\n3000 files, 0 differences"));
     // 7,204 that are given, 170 that are not, and one with each file.
     assert!(text.contains("\nserpentgleam_factors: 10374 calls: given: "));
+    assert!(text.contains("\nserpentgleam_day: "));
 }
 
 #[test]
@@ -259,5 +326,7 @@ fn every_changed_answer_is_found() {
         let difference = found.expect_err(name);
         let written = matches!(*difference, Difference::FileWrittenTo { .. });
         assert_eq!(written, change == Change::FileWritten, "{name}");
+        let beside = matches!(*difference, Difference::WrittenBeside { .. });
+        assert_eq!(beside, change == Change::DayBeside, "{name}");
     }
 }

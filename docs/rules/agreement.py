@@ -1,6 +1,7 @@
 """Where hand arithmetic and product meet: what the product prints, if it is what the hand arithmetic says."""
+from .day import refused, text_after
 from .pairing import answer_of
-from .product import file_from_text, printed
+from .product import file_after, file_from_text, printed
 from .terms import rows_from
 
 
@@ -18,3 +19,19 @@ def same(what, product, hand):
 def agreed(text):
     """The lines that margin prints for an account's text."""
     return same(text, printed(file_from_text(text)), answer_of(rows_from(text)).lines)
+
+
+def agreed_day(text, day):
+    """An account's text after a day that is in order: day_batch writes its file, and for the same day once more too."""
+    after = text_after(text, day)
+    made = ('day', file_from_text(after))
+    for before in (text, after):
+        same(f'{before}{day}', file_after(file_from_text(before), day), made)
+    agreed(after)
+    return after
+
+
+def agreed_refusal(text, day):
+    """The line that day_batch writes for a day that is refused; the file after it is as it was."""
+    file = file_from_text(text)
+    return same(f'{text}{day}', file_after(file, day), (refused(text, day), file))[0]

@@ -1,14 +1,15 @@
 """The worked examples of the page: each block of the prose filled with arithmetic and with what margin prints."""
 import re
 
-from . import factor_blocks
+from . import day_blocks, factor_blocks
 from .agreement import agreed, same
+from .examples import account_bytes, account_text_of, examples_in, in_block, priced, short
 from .pairing import answer_of, steps_of
-from .product import ROOT, printed
+from .product import printed
 from .refusals import refusal_table
 from .spread import unit_spread
 from .steps import account_text, printed_table, steps_tables, table
-from .terms import SERIES_TEXT, rows_from, shown
+from .terms import bare_lines, rows_from, shown
 from .unit import amount, unit_margin
 
 BLOCK = re.compile(r'^```(\w+)\n(.*?)^```$', re.MULTILINE | re.DOTALL)
@@ -17,34 +18,10 @@ PAIRS_HEAD = ['Rows', 'Tests', 'Spread margin, ticks', 'Written unit margin',
               'Amount, centavos; `margin` prints']
 
 
-def examples_in(block):
-    """Each example of a block, as it is shown and as an account's text. `call:` stands for the usual call series."""
-    for example in block.strip('\n').split('\n\n'):
-        text = re.sub(r'^(call|put):', lambda found: SERIES_TEXT[found[1]] + '\n', example, flags=re.MULTILINE)
-        yield example, text
-
-
-def in_block(parts):
-    """Examples in a block that is shown as it is."""
-    return '```text\n' + '\n\n'.join(parts) + '\n```'
-
-
-def short(example):
-    """An example's rows for a table: without the words that all rows of the tables share."""
-    notes = [line[2:] + ':' for line in example.split('\n') if line.startswith('#')]
-    rows = [re.sub(r' Q=10| european', '', line) for line in example.split('\n') if not line.startswith('#')]
-    return '<br>'.join(notes + [f'`{row}`' for row in rows])
-
-
 def rendered(example, lines, product):
     """An example line by line: the rows, the arithmetic and the product's lines."""
     last = f'{lines[-1]}; margin prints: {", ".join(product)}'
     return '\n'.join([example, *('    ' + line for line in [*lines[:-1], last])])
-
-
-def priced(arithmetic, product):
-    """The last cell of a table: the amount, and the product's lines."""
-    return '<br>'.join(([arithmetic] if arithmetic else []) + [f'`{line}`' for line in product])
 
 
 def unit_block(block):
@@ -131,11 +108,9 @@ def account_block(block):
 
 def example_block(block):
     """An account of the folder examples, by its text; the account file beside it must have the same answer."""
-    source = ROOT / block.strip()
-    lines = [line.split('#')[0].rstrip() for line in source.read_text('utf-8').splitlines()]
-    text = '\n'.join(line for line in lines if line and not line.startswith('cover')) + '\n'
-    same(block, printed(source.with_suffix('.account').read_bytes()), agreed(text))
-    return account_block(text)
+    text = account_text_of(block.strip())
+    same(block, printed(account_bytes(block.strip())), agreed(text))
+    return account_block('\n'.join(line for line in bare_lines(text) if not line.startswith('cover')) + '\n')
 
 
 def alone_lines(row):
@@ -158,7 +133,7 @@ def steps_block(block):
 
 FILLERS = {'unit': unit_block, 'units': units_table, 'pair': pair_block, 'pairs': pairs_table,
            'quantities': quantities_block, 'account': account_block, 'example': example_block, 'steps': steps_block,
-           'refusals': refusal_table, **factor_blocks.FILLERS}
+           'refusals': refusal_table, **factor_blocks.FILLERS, **day_blocks.FILLERS}
 
 
 def filled(prose):

@@ -17,13 +17,17 @@ def file_from_text(text, trailer=None):
     return file_of(read_account(text.encode('utf-8')), trailer)
 
 
-def lines_of(program, data):
-    """The lines that a proved program prints for its standard input."""
+def output_of(program, data):
+    """The bytes that a proved program writes for its standard input."""
     path = ROOT / 'target' / 'bin' / program
     if not path.exists():
         sys.exit(f'{path.relative_to(ROOT)} is not there: rt check {program}')
-    run = subprocess.run([path], input=data, capture_output=True, check=True)
-    return run.stdout.decode('ascii').splitlines()
+    return subprocess.run([path], input=data, capture_output=True, check=True).stdout
+
+
+def lines_of(program, data):
+    """The lines that it prints."""
+    return output_of(program, data).decode('ascii').splitlines()
 
 
 def printed(file):
@@ -36,3 +40,14 @@ def factors_printed():
     """What factors_list prints for each code and number of days: fa and fb, or the refusal."""
     lines = [line.split(' ', 2) for line in lines_of('factors_list', b'')]
     return {(int(code), int(days)): answer for code, days, answer in lines}
+
+
+def file_after(file, day):
+    """What day_batch writes for a day and a file: the line `day` or `refused` with number and row, and the file then.
+
+    It takes any number of cases, each as its length in four little-endian bytes and then its bytes: the day as four
+    numbers of eight bytes, and the file. After the file it writes a line feed.
+    """
+    case = b''.join(number.to_bytes(8, 'little') for number in day) + file
+    line, after = output_of('day_batch', len(case).to_bytes(4, 'little') + case).split(b'\n', 1)
+    return line.decode('ascii'), after.removesuffix(b'\n')

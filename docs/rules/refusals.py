@@ -1,4 +1,4 @@
-"""What document 01 refuses: each number with an example file, and what margin prints for it."""
+"""What documents 01 and 02 refuse: each number with an example file, and what margin prints for it."""
 from .agreement import same
 from .product import file_from_text, printed
 from .terms import SERIES_TEXT
@@ -24,8 +24,9 @@ REFUSALS = [
      '`fa=1.2 fb=1.3`', lambda: rows(GOOD, series=CALL.replace('fb=0.8', 'fb=1.3')), 0),
     (6, 'Series row: type above 1, or a spare byte not zero', '`type=2`',
      lambda: rows(GOOD, series=CALL.replace('call', 'type=2')), 0),
-    (7, 'Position row: series not below s, side above 1, barrier kind above 4, a flag that document 01 does not name, '
-     'already knocked in without an up-and-in or down-and-in, or a spare byte not zero', '`up-and-out=3500 knocked-in`',
+    (7, 'Position row: series not below s, side above 1, barrier kind above 4, a flag beside 1, 2, 4, 8 and 16, '
+     'already knocked in without an up-and-in or down-and-in, already knocked out without an up-and-out or '
+     'down-and-out, or a spare byte not zero', '`up-and-out=3500 knocked-in`',
      lambda: rows(GOOD + ' up-and-out=3500 knocked-in'), 0),
     (8, f'Position row: Q not 1 to 100,000, PE not 1 to {MOST}, REB or premium above {MOST}, or a premium on a '
      'written row', '`written Q=10 PE=3100 premium=20`', lambda: rows(GOOD + ' premium=20'), 0),
@@ -33,10 +34,11 @@ REFUSALS = [
      'call, `PE=3100 PB=3100`', lambda: rows(GOOD + ' PB=3100'), 0),
     (10, f'Position row: without a barrier, barrier price or REB not 0; with one, price not 1 to {MOST}',
      '`PE=3100 REB=40`, no barrier', lambda: rows(GOOD + ' REB=40'), 0),
-    (11, 'Position row: up barrier not above PV, or down barrier not below PV, unless already knocked in',
-     '`PV=3000`, second row `down-and-out=3000`', lambda: rows(GOOD, GOOD + ' down-and-out=3000'), 1),
+    (11, 'Position row: up barrier not above PV, or down barrier not below PV, unless already knocked in or knocked '
+     'out', '`PV=3000`, second row `down-and-out=3000`', lambda: rows(GOOD, GOOD + ' down-and-out=3000'), 1),
 ]
-# Two faults at once, and files without positions: the example in words, its file, what margin must print.
+# Two faults at once, rows already knocked in or out, and files without positions: the example in words, its file, what
+# margin must print.
 OTHER_FILES = [
     ('one row: Q = 0 (8) and PB = PE (9)', lambda: rows('written Q=0 PE=3100 PB=3100 european'), 'refused 8 0'),
     ('position row 0: Q = 0 (8); series row 1: M = 0 (5)', lambda: rows(
@@ -45,6 +47,14 @@ OTHER_FILES = [
      lambda: rows(GOOD + ' up-and-out=3000', 'written Q=0 PE=3100 european'), 'refused 11 0'),
     ('position row 0: already knocked in, up-and-in at PV: no fault',
      lambda: rows(GOOD + ' up-and-in=3000 knocked-in'), 'left 0 10 25000'),
+    ('position row 0: already knocked out, down-and-out above PV: no fault',
+     lambda: rows(GOOD + ' down-and-out=3001 REB=40 knocked-out'), 'left 0 10 2000'),
+    ('position row 0: already knocked out, down-and-out of 0 (10)',
+     lambda: rows(GOOD + ' down-and-out=0 knocked-out'), 'refused 10 0'),
+    ('position row 0: already knocked out, up-and-in (7)',
+     lambda: rows(GOOD + ' up-and-in=3500 knocked-out'), 'refused 7 0'),
+    ('position row 0: already knocked out, no barrier (7)', lambda: rows(GOOD + ' knocked-out'), 'refused 7 0'),
+    ('position row 0: flag 32 (7)', lambda: rows(GOOD + ' up-and-out=3500 other-flags=32'), 'refused 7 0'),
     ('s = 0 (2), p = 0', lambda: rows(trailer=(0, 0, 12, 0)), 'refused 2 0'),
     ('p = 0, distance 37 (4)', lambda: rows(trailer=(1, 0, 12 + 24 + 1, 0)), 'refused 4 0'),
     ('p = 0; series row 1: M = 0 (5)', lambda: rows(series=CALL + '\n' + PUT.replace('M=5', 'M=0')), 'refused 5 1'),
@@ -59,13 +69,16 @@ def answer(example, file, expected):
 
 
 def refusal_table(_):
-    """The numbers of document 01's table, document 02's 14, and files with two faults or without positions."""
+    """The numbers of document 01's table and those of document 02, and more files with what margin prints for them."""
     lines = ['| Number | Given for | Example | `margin` prints |', '|---|---|---|---|']
     lines += [f'| {number} | {given} | {example} | {answer(example, file(), f"refused {number} {row}")} |'
               for number, given, example, file, row in REFUSALS]
     lines += ['| 12 | Line list: fewer than p entries | C call `serpentgleam_margin` alone | |',
               '| 13 | Row asked for: p or above | C call `serpentgleam_position_amount` alone | |',
               '| 14 | Factors asked for: n above 1,800, or code not 0 to 3 | C call `serpentgleam_factors` alone | |',
+              '| 16 | Day: series not in the account | C call `serpentgleam_day` alone | |',
+              '| 17 | Day: high below low, close outside them, or one of the three not 1 to 10,000,000 | C call '
+              '`serpentgleam_day` alone | |',
               '', '| File | `margin` prints |', '|---|---|']
     lines += [f'| {example} | {answer(example, file(), expected)} |' for example, file, expected in OTHER_FILES]
     return '\n'.join(lines)

@@ -3,6 +3,8 @@
 "A limiter no longer bars a pair when the held row has none, or when both have one and the held one is not nearer: PBh ≥
 PBw for calls, PBh ≤ PBw for puts. The spread formulas are those in force. A held limiter against an unlimited written
 row still bars it."
+
+and [5]: "A row with flag 16 .. is never paired".
 """
 from .terms import after_flag_1, fine, shown
 from .unit import Working, largest
@@ -112,6 +114,9 @@ def limiters_in_order(written, held, lines):
 
 def unit_spread(written, held):
     """The unit spread margin of two rows, its value None where they are barred."""
+    out = [row.number for row in (written, held) if row.knocked_out]
+    if out:
+        return Working(None, [f'row {number} already knocked out' for number in out], [], 'barred')
     tests = [f'row {row.number} already knocked in: no barrier, REB = 0' for row in (written, held) if row.knocked_in]
     written, held = after_flag_1(written), after_flag_1(held)
     if terms(written) == terms(held):

@@ -2,7 +2,7 @@
 from .pairing import pairs_of, steps_of
 from .terms import shown
 
-ROW_WIDTH = 52  # after it the comment with the row's number
+ROW_WIDTH = 52  # after it the comment with the row's number, unless a row is longer
 
 
 def table(head, rows):
@@ -13,12 +13,12 @@ def table(head, rows):
 
 def account_text(block):
     """An account's text with the numbers of its position rows."""
-    lines, number = [], 0
-    for line in block.strip('\n').split('\n'):
+    lines, number = block.strip('\n').split('\n'), 0
+    width = max([ROW_WIDTH] + [len(line) for line in lines])
+    for at, line in enumerate(lines):
         if line.startswith(('held', 'written')):
-            line = f'{line:<{ROW_WIDTH}}  # row {number}'
+            lines[at] = f'{line:<{width}}  # row {number}'
             number += 1
-        lines.append(line)
     return '\n'.join(lines)
 
 

@@ -45,6 +45,7 @@ class Row(NamedTuple):
     REB: int
     premium: int
     knocked_in: bool
+    knocked_out: bool
     may_pair: bool
 
 
@@ -79,13 +80,17 @@ def row_from(number, words, series_rows):
     kind = next((name for name in BARRIERS if name in values), None)
     series, may_pair = series_rows[values.get('series', 0)], 'european' in words or 'before-annex' in words
     return Row(number, series, words[0], values['Q'], values['PE'], values.get('PB'), kind, values.get(kind, 0),
-               values.get('REB', 0), values.get('premium', 0), 'knocked-in' in words, may_pair)
+               values.get('REB', 0), values.get('premium', 0), 'knocked-in' in words, 'knocked-out' in words, may_pair)
+
+
+def bare_lines(text):
+    """The lines of a text without comments; empty ones are left out."""
+    return [line for line in (line.split('#')[0].strip() for line in text.splitlines()) if line]
 
 
 def rows_from(text):
     """The position rows of an account's text, each with its series."""
-    lines = [line.split('#')[0].split() for line in text.splitlines()]
-    lines = [words for words in lines if words and words[0] != 'cover']
+    lines = [line.split() for line in bare_lines(text) if not line.startswith('cover')]
     series_rows = [series_from(words[1:]) for words in lines if words[0] == 'series']
     positions = [words for words in lines if words[0] != 'series']
     return [row_from(number, words, series_rows) for number, words in enumerate(positions)]

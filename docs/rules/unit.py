@@ -1,4 +1,4 @@
-"""The unit margin of a written row, worked out by hand from document 01, One position."""
+"""The unit margin of a written row, worked out by hand from document 01, One position, and document 02 [5], flag 16."""
 from typing import List, NamedTuple, Optional
 
 from .terms import BARRIERS, after_flag_1, fine, shown
@@ -71,6 +71,8 @@ def put_payoff(row, reached):
 
 def unit_margin(row):
     """The unit margin of a written row."""
+    if row.knocked_out:
+        return Working(fine(row.REB), ['already knocked out'], [], f'REB = {row.REB}')
     tests = ['already knocked in: no barrier, REB = 0'] if row.knocked_in else []
     row = after_flag_1(row)
     parts = {'MM': row.series.MM, 'REB': fine(row.REB)}

@@ -40,6 +40,14 @@ extern "C" {
     fn serpentgleam_position_amount(file: *const u8, length: usize, row: u64) -> i64;
     fn serpentgleam_premiums(file: *const u8, length: usize) -> Answer;
     fn serpentgleam_factors(code: u64, days: u64) -> Factors;
+    fn serpentgleam_day(
+        file: *mut u8,
+        length: usize,
+        series: u64,
+        high: u64,
+        low: u64,
+        close: u64,
+    ) -> Answer;
 }
 
 type MarginEntry = unsafe extern "C" fn(*const u8, usize, *mut Line, usize) -> Margin;
@@ -69,6 +77,14 @@ pub fn premiums(file: &[u8]) -> Answer {
 pub fn factors(code: u64, days: u64) -> Factors {
     // SAFETY: no memory is handed over.
     unsafe { serpentgleam_factors(code, days) }
+}
+
+/// Brings the file up to date after a day of a series. On a refusal its bytes keep their content.
+#[inline]
+pub fn day(file: &mut [u8], series: u64, high: u64, low: u64, close: u64) -> Answer {
+    let start = if file.is_empty() { null_mut() } else { file.as_mut_ptr() };
+    // SAFETY: the file is as long as is said.
+    unsafe { serpentgleam_day(start, file.len(), series, high, low, close) }
 }
 
 /// Entries of an earlier archive, by the names that bench/against gives them. They are declared as today's are, so an archive

@@ -1,7 +1,7 @@
 """What the engine answers: an account's margin, a series' factors, or a refusal, whose sentences stand here."""
 from typing import NamedTuple, Tuple
 
-REASONS = {  # 3 is not used: an account without positions is accepted
+REASONS = {  # 3 and 15 are not used; 3 was for an account without positions, which is accepted
     1: 'the file has fewer than 12 or more than 65,536 bytes',
     2: 'series count not 1 to 32, position count above 256, or one of the last four bytes not zero',
     4: 'the distance to the first series row is not 12 + 24 x series + 32 x positions, or longer than the file',
@@ -15,6 +15,8 @@ REASONS = {  # 3 is not used: an account without positions is accepted
     12: 'the list of lines has fewer entries than the account has positions',
     13: 'there is no position row of the number asked for',
     14: 'there are no factors of the code and days asked for: code not 0 to 3, or days above 1,800',
+    16: 'there is no series of the number asked for',
+    17: "the day's prices: high below low, close outside them, or one of the three not 1 to 10,000,000",
 }
 NO_SUCH_REFUSAL = 'there is no refusal of this number'
 
@@ -63,7 +65,7 @@ class Refusal(NamedTuple):
 
 
 class Refused(Exception):
-    """A file is refused or has no such row, or no such factors are there. Has its refusal's number, row and reason."""
+    """A file or a question is refused, or a day's prices. Has its refusal's number, row and reason."""
 
     def __init__(self, refusal: Refusal):
         super().__init__(refusal)

@@ -7,7 +7,7 @@ from typing import Callable, NamedTuple, Tuple
 from . import __version__, library, usage
 from .answers import Refusal, Refused
 from .codes import NAMES, code_named
-from .engine import factors_or_refusal, margin_or_refusal, position_amount
+from .engine import day_or_refusal, factors_or_refusal, margin_or_refusal, position_amount
 from .forms import number_of
 from .inputs import (STANDARD_INPUT, Unread, called, names_in, read_account_file, read_either, read_text_file, shown)
 from .lines import Unreadable
@@ -19,6 +19,7 @@ from .suggestions import meant
 from .text import check, file_and_broken_rules, text_from_file
 
 DONE, REFUSED, FAILED = 0, 1, 2
+DAY_NUMBERS = ('the series', 'the high', 'the low', 'the close')  # after the file's name
 
 
 class Command(NamedTuple):
@@ -156,6 +157,31 @@ def run_factors(options):
     return REFUSED
 
 
+def file_and_day(words):
+    """The file's name and the four numbers that the words after `day` say."""
+    if len(words) != 1 + len(DAY_NUMBERS):
+        raise WrongWords("day takes a file, a series, and the day's high, low and close")
+    name, *numbers = words
+    for what, number in zip(DAY_NUMBERS, numbers):
+        if not is_whole(number):
+            raise WrongWords(f'{what} is a whole number from 0 on: {shown(number)}')
+    return name, map(number_of, numbers)
+
+
+def run_day(options):
+    name, numbers = file_and_day(options.names)
+    if options.output is None:  # the line of a refusal, which stands on standard output, is not taken for a file
+        raise WrongWords('day writes an account file, and -o names where; it may be the file that is read')
+    answer = day_or_refusal(read_account_file(name), *numbers)
+    if isinstance(answer, Refusal):
+        print_text(f'refused {answer.number} {answer.row}\n')
+        say(answer.reason)
+        return REFUSED
+    with output_to(options.output, shown(options.output)) as output:
+        output.write(answer)
+    return DONE
+
+
 def one_name(options):
     """The one file that is named, or standard input."""
     if len(options.names) > 1:
@@ -195,6 +221,7 @@ COMMANDS = {
     'margin': Command(usage.MARGIN, FILES, run_margin),
     'position': Command(usage.POSITION, FORMS, run_position),
     'factors': Command(usage.FACTORS, FORMS, run_factors),
+    'day': Command(usage.DAY, ('output',), run_day),
     'check': Command(usage.CHECK, FILES, run_check),
     'to-text': Command(usage.TO_TEXT, ('output',), run_to_text),
     'to-file': Command(usage.TO_FILE, ('output',), run_to_file),

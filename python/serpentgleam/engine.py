@@ -1,4 +1,6 @@
-"""The questions to the proved library: an account's margin, one position's amount, the factors of a series."""
+"""The questions to the proved library: an account's margin, one position's amount, the factors of a series, and an
+account file after a day.
+"""
 import ctypes
 import operator
 from typing import Union
@@ -113,6 +115,34 @@ def factors(code: Union[str, int], days: int) -> Factors:
     Factors(fa=1863083, fb=1085366)
     """
     answer = factors_or_refusal(code, days)
+    if isinstance(answer, Refusal):
+        raise Refused(answer)
+    return answer
+
+
+def day_or_refusal(data: bytes, series: int, high: int, low: int, close: int) -> Union[bytes, Refusal]:
+    """The account file after a day, or the refusal: for runs over many files, in which no refusal is raised."""
+    data = as_bytes(data)
+    numbers = [number_for_call(number, f'{what} is a number') for number, what in (
+        (series, 'a series'), (high, 'the high'), (low, 'the low'), (close, 'the close'))]
+    lent = ctypes.create_string_buffer(data, len(data))  # a copy, for the library writes to it
+    answer = library.day_call()(lent, len(data), *numbers)
+    return Refusal(answer.refusal, answer.row) if answer.refusal else lent.raw
+
+
+def day(data: bytes, series: int, high: int, low: int, close: int) -> bytes:
+    """The bytes of an account file brought up to date after a day: a series row, counted from 0, and its high, low and
+    close in ticks. PV becomes the close, and barriers that were touched are marked in the flags of the series' rows.
+    The bytes handed over stay as they are. Raises Refused where the file is refused, has no such series (16) or the
+    prices are not in order (17).
+
+    >>> with open('examples/before_the_day.account', 'rb') as file:
+    ...     before = file.read()
+    >>> after = day(before, series=0, high=3500, low=2700, close=2900)
+    >>> margin(before).total, margin(after).total
+    (97000, 93250)
+    """
+    answer = day_or_refusal(data, series, high, low, close)
     if isinstance(answer, Refusal):
         raise Refused(answer)
     return answer

@@ -1,4 +1,4 @@
-"""What document 01 refuses, as sentences for a reader of the text. The engine's own answer decides."""
+"""What documents 01 and 02 refuse, as sentences for a reader of the text. The engine's own answer decides."""
 from typing import Callable, NamedTuple, Optional
 
 from .layout import HIGHEST, LONGEST_FILE, POSITION, SERIES, TRAILER, distance, trailer_of
@@ -29,6 +29,11 @@ class Rule(NamedTuple):
     broken: Callable[[dict, dict], bool]
 
 
+def was_touched(row):
+    """Whether the flags say that the barrier was touched."""
+    return row['knocked-in'] or row['knocked-out']
+
+
 SERIES_RULES = (
     Rule(5, 'fb', 'fb is 0.0 to fa', lambda row, _: row['fb'] > row['fa']),
 )
@@ -37,6 +42,8 @@ POSITION_RULES = (
     Rule(7, 'series', 'there is no such series row', lambda row, series: series is None),
     Rule(7, 'knocked-in', 'knocked-in is for up-and-in and down-and-in', lambda row, _:
          row['knocked-in'] and row['kind'] not in (1, 2)),
+    Rule(7, 'knocked-out', 'knocked-out is for up-and-out and down-and-out', lambda row, _:
+         row['knocked-out'] and row['kind'] not in (3, 4)),
     Rule(8, 'premium', 'premium is 0 on a written row', lambda row, _: row['side'] == 1 and row['premium'] > 0),
     Rule(9, 'PB', 'PB is 0 without the limiter flag', lambda row, _: not row['limiter'] and row['PB'] > 0),
     Rule(9, 'PB', f'PB of a call is above PE and at most {HIGHEST}', lambda row, series:
@@ -48,10 +55,10 @@ POSITION_RULES = (
     Rule(10, 'REB', 'REB is 0 without a barrier', lambda row, _: row['kind'] == 0 and row['REB'] > 0),
     Rule(10, 'barrier-price', f'the price of a barrier is 1 to {HIGHEST}', lambda row, _:
          row['kind'] > 0 and not 1 <= row['barrier-price'] <= HIGHEST),
-    Rule(11, 'barrier-price', 'an up barrier is above PV, unless knocked-in', lambda row, series:
-         series and row['kind'] in (1, 3) and not row['knocked-in'] and row['barrier-price'] <= series['PV']),
-    Rule(11, 'barrier-price', 'a down barrier is below PV, unless knocked-in', lambda row, series:
-         series and row['kind'] in (2, 4) and not row['knocked-in'] and row['barrier-price'] >= series['PV']),
+    Rule(11, 'barrier-price', 'an up barrier is above PV, unless knocked-in or knocked-out', lambda row, series:
+         series and row['kind'] in (1, 3) and not was_touched(row) and row['barrier-price'] <= series['PV']),
+    Rule(11, 'barrier-price', 'a down barrier is below PV, unless knocked-in or knocked-out', lambda row, series:
+         series and row['kind'] in (2, 4) and not was_touched(row) and row['barrier-price'] >= series['PV']),
 )
 
 

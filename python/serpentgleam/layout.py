@@ -1,4 +1,4 @@
-"""The account file of document 01: each field with its place, limits and refusal; from bytes to rows and back."""
+"""The account file: each field with its place, limits and refusal; from bytes to rows and back."""
 from typing import NamedTuple, Optional, Tuple
 
 from .forms import FACTOR, WHOLE, Form, hexadecimal
@@ -52,7 +52,8 @@ POSITION = Table('position', 32, (
     Field('limiter', 4, 1, None, 0, own_bits=2),
     Field('european', 4, 1, None, 0, own_bits=4),
     Field('before-annex', 4, 1, None, 0, own_bits=8),
-    Field('other-flags', 4, 1, Limits(0, 0, 7), 0, own_bits=16 + 32 + 64 + 128),
+    Field('knocked-out', 4, 1, None, 0, own_bits=16),
+    Field('other-flags', 4, 1, Limits(0, 0, 7), 0, own_bits=32 + 64 + 128),
     Field('spare', 5, 3, Limits(0, 0, 7), 0, hexadecimal(3)),
     Field('Q', 8, 4, Limits(1, 100_000, 8)),
     Field('PE', 12, 4, Limits(1, HIGHEST, 8)),

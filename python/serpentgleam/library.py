@@ -19,6 +19,11 @@ class Result(ctypes.Structure):
     _fields_ = [(name, ctypes.c_uint64) for name in ('refusal', 'row', 'lines', 'total')]
 
 
+class Answer(ctypes.Structure):
+    """struct serpentgleam_answer."""
+    _fields_ = [(name, ctypes.c_uint64) for name in ('refusal', 'row', 'value')]
+
+
 class FactorsResult(ctypes.Structure):
     """struct serpentgleam_factors."""
     _fields_ = [(name, ctypes.c_uint64) for name in ('refusal', 'row', 'fa', 'fb')]
@@ -66,14 +71,14 @@ def call(name, gives, *takes):
 
 
 class Calls(NamedTuple):
-    """The library's calls that take a file, by their names in the C header, without its prefix."""
+    """The library's calls that read a file, by their names in the C header, without its prefix."""
     margin: Callable
     position_amount: Callable
 
 
 @functools.lru_cache(maxsize=None)
 def calls():
-    """The calls that take a file. Its bytes are handed over without a copy."""
+    """The calls that read a file. Its bytes are handed over without a copy."""
     file = (ctypes.c_char_p, ctypes.c_size_t)
     return Calls(call('margin', Result, *file, ctypes.c_void_p, ctypes.c_size_t),
                  call('position_amount', ctypes.c_int64, *file, ctypes.c_uint64))
@@ -83,6 +88,12 @@ def calls():
 def factors_call():
     """The call for factors, apart from the others: a library before version 0.3.0 has those and not this one."""
     return call('factors', FactorsResult, ctypes.c_uint64, ctypes.c_uint64)
+
+
+@functools.lru_cache(maxsize=None)
+def day_call():
+    """The call for a day, which writes to the file's bytes; a library before version 0.5.0 does not have it."""
+    return call('day', Answer, ctypes.c_void_p, ctypes.c_size_t, *[ctypes.c_uint64] * 4)
 
 
 def list_of_lines():

@@ -6,6 +6,7 @@ COMMAND = '''usage: serpentgleam COMMAND ..
   margin FILE..          pairs, rows left, premium and total of account files, or why they are refused
   position FILE ROW      the amount of one position row by itself
   factors CODE DAYS      the factors fa and fb of a series, by the circular's row of a code and the days to expiry
+  day FILE SERIES ..     the account file after a day: high, low and close of a series
   check FILE..           every fault of texts and account files, with line, row and field
   to-text [FILE]         an account file as text
   to-file [TEXT]         the account file of a text
@@ -71,6 +72,23 @@ JSON     code, days, fa, fb; or code, days and refused (number, row, reason). Th
 CSV      code, days, fa, fb, number, row, reason
 '''
 
+DAY = '''usage: serpentgleam day -o OUTPUT FILE SERIES HIGH LOW CLOSE
+
+Writes the account file brought up to date after a day. PV of the series becomes the close. In the series' rows a
+knock-in is marked knocked-in (flag 1) and a knock-out knocked-out (flag 16) where the day touched its barrier: the high
+at or above an up barrier, or the low at or below a down barrier. Every other byte stays, the cover sheet too. The same
+day once more changes nothing.
+
+Nothing is printed. Or refused NUMBER ROW, and why on standard error: the number is that of the file's refusal, or 16
+where there is no such series, or 17 where the high is below the low, the close is not between them, or one of the three
+is not 1 to 10000000. Then OUTPUT is not written.
+
+  FILE                   - is standard input
+  SERIES                 the series row, counted from 0
+  HIGH LOW CLOSE         prices of the day in whole ticks
+  -o, --output OUTPUT    into this file, which appears whole or not at all; it may be FILE itself
+'''
+
 CHECK = '''usage: serpentgleam check [--json | --csv] [-o OUTPUT] [-q] [--from LIST [-0]] [FILE..]
 
 Prints every fault of texts and account files, with the file's name, the line of a text, the row, the field and the
@@ -95,7 +113,7 @@ same bytes. A file refused with 1, 2 or 4 has no rows to show; then one sentence
 TO_FILE = '''usage: serpentgleam to-file [-o OUTPUT] [TEXT]
 
 Writes the account file of a text; without TEXT that of standard input. A faulty text gives no file: each fault is named
-with line and field. A text that breaks a rule of document 01 gives its file, and each rule is named on standard error.
+with line and field. A text that breaks a rule of account files gives its file; each rule is named on standard error.
 
   -o, --output OUTPUT    into this file, which appears whole when all is done or not at all
 
@@ -108,10 +126,10 @@ series         call or put, PV, fa, fb, f3, M. A factor is always a decimal with
                0.05): without the point it is an error, so that nobody takes 1200000 millionths for a factor of 1200000.
 held, written  series (may be left out where there is only one), Q, PE; if the position has it PB (the limiter), one
                barrier with its price (up-and-in=, down-and-in=, up-and-out= or down-and-out=), REB, premium, and the
-               words knocked-in (already), european, before-annex (opened before it).
+               words knocked-in and knocked-out (already), european, before-annex (opened before it).
 cover          text="..." with \n \r \t \" \\ for what cannot stand there, or hex=...; several lines follow one another.
 
-Raw values, for rows that document 01 refuses: type=7 in place of call or put; position side=3 in place of held or
-written; kind=9 and barrier-price=3500 in place of a barrier; PB-without-flag=3300; other-flags=144 for flags that have
-no word; spare=01ff00. Every value is written that fits its field.
+Raw values, for rows that are refused: type=7 in place of call or put; position side=3 in place of held or written;
+kind=9 and barrier-price=3500 in place of a barrier; PB-without-flag=3300; other-flags=160 for flags that have no word;
+spare=01ff00. Every value is written that fits its field.
 '''

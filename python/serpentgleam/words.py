@@ -51,7 +51,8 @@ POSITION_LINE = line_of(
     valued('barrier-price', 'up-and-in', kind=1), valued('barrier-price', 'down-and-in', kind=2),
     valued('barrier-price', 'up-and-out', kind=3), valued('barrier-price', 'down-and-out', kind=4),
     valued('kind'), valued('barrier-price'), valued('REB'), valued('premium'),
-    flag('knocked-in'), flag('european'), flag('before-annex'), valued('other-flags'), valued('spare'))
+    flag('knocked-in'), flag('knocked-out'), flag('european'), flag('before-annex'), valued('other-flags'),
+    valued('spare'))
 
 
 def write_words(line, row):

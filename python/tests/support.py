@@ -1,6 +1,7 @@
 """What the tests of the package and the command share: the files they are run on, and the command run as a process."""
 import glob
 import os
+import resource
 import subprocess
 import sys
 import tempfile
@@ -18,7 +19,10 @@ COMMAND = [sys.executable, os.path.join(TOP, 'python', 'bin', 'serpentgleam')]
 EXAMPLES = sorted(glob.glob(os.path.join(TOP, 'examples', '*.account')))
 DOCUMENT = os.path.join(TOP, 'examples', 'document.account')
 WRONG_SIDE = os.path.join(TOP, 'examples', 'wrong_side.account')
+BEFORE_THE_DAY = os.path.join(TOP, 'examples', 'before_the_day.account')
+AFTER_THE_DAY = os.path.join(TOP, 'examples', 'after_the_day.account')
 SERIES_TEXT = 'series call PV=3000 fa=1.2 fb=0.8 f3=0.05 M=5\n'
+ROOM = 4096  # bytes on a disk that is full after them
 
 
 def bytes_of(*path):
@@ -36,6 +40,11 @@ def command(*words, data=b'', **options):
     run = subprocess.run([*COMMAND, *words], input=data, stdout=options.pop('stdout', subprocess.PIPE),
                          stderr=subprocess.PIPE, timeout=120, check=False, **options)
     return run.returncode, run.stdout, run.stderr.decode()
+
+
+def little_room():
+    """In a process that is to be started: its files take so many bytes, then a short write and an error."""
+    resource.setrlimit(resource.RLIMIT_FSIZE, (ROOM, ROOM))
 
 
 def folder(test):

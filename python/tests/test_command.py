@@ -117,12 +117,12 @@ class Checks(unittest.TestCase):
     def test_examples(self):
         texts = [name.replace('.account', '.txt') for name in EXAMPLES]
         status, output, errors = command('check', *EXAMPLES, *texts)
-        self.assertEqual((status, errors), (1, 'serpentgleam: 14 files: 12 in order, 2 with faults\n'))
+        self.assertEqual((status, errors), (1, 'serpentgleam: 18 files: 16 in order, 2 with faults\n'))
         self.assertEqual(output.decode().split('\n'), [
             f'{WRONG_SIDE}: position row 2, field barrier-price: refusal 11: a down barrier is below PV, unless '
-            'knocked-in',
+            'knocked-in or knocked-out',
             f'{WRONG_SIDE.replace(".account", ".txt")}: line 10, position row 2, field barrier-price: refusal 11: '
-            'a down barrier is below PV, unless knocked-in', ''])
+            'a down barrier is below PV, unless knocked-in or knocked-out', ''])
 
     def test_every_fault_of_a_text(self):
         faulty = SERIES_TEXT + '\nheld Q=0 PE=3100 premium=3\nwritten Q=1 PE=1 series=4 PB=2 REB=3\n'
@@ -153,10 +153,11 @@ class Checks(unittest.TestCase):
         (found,) = [json.loads(line) for line in command('check', '--json', WRONG_SIDE)[1].splitlines()]
         self.assertEqual(found, {'file': WRONG_SIDE, 'faults': [{
             'line': None, 'table': 'position', 'row': 2, 'field': 'barrier-price', 'refusal': 11,
-            'sentence': 'a down barrier is below PV, unless knocked-in'}]})
+            'sentence': 'a down barrier is below PV, unless knocked-in or knocked-out'}]})
         self.assertEqual(command('check', '--csv', WRONG_SIDE)[1].decode().split('\n'), [
             'file,line,table,row,field,refusal,sentence',
-            f'{WRONG_SIDE},,position,2,barrier-price,11,"a down barrier is below PV, unless knocked-in"', ''])
+            f'{WRONG_SIDE},,position,2,barrier-price,11,"a down barrier is below PV, unless knocked-in or knocked-out"',
+            ''])
 
     def test_the_first_fault_is_the_engine_s_answer(self):
         for data, answer in VECTORS:
@@ -210,12 +211,13 @@ class Words(unittest.TestCase):
         self.assertEqual(command('--help'), (0, usage.COMMAND.encode(), ''))
         self.assertEqual(command('--version'), (0, f'serpentgleam {serpentgleam.__version__}\n'.encode(), ''))
         for word, said in (('margin', usage.MARGIN), ('position', usage.POSITION), ('factors', usage.FACTORS),
-                           ('check', usage.CHECK), ('to-text', usage.TO_TEXT), ('to-file', usage.TO_FILE)):
+                           ('day', usage.DAY), ('check', usage.CHECK), ('to-text', usage.TO_TEXT),
+                           ('to-file', usage.TO_FILE)):
             self.assertEqual(command(word, '--help'), (0, said.encode(), ''))
             self.assertIn(f'\n  {word} ', usage.COMMAND)
 
     def test_words_that_are_not_known(self):
-        self.check([], 'a command is missing: margin, position, factors, check, to-text, to-file')
+        self.check([], 'a command is missing: margin, position, factors, day, check, to-text, to-file')
         self.check(['margn'], 'there is no command margn; did you mean margin?')
         self.check(['to_text'], 'there is no command to_text; did you mean to-text?')
         self.check(['factor'], 'there is no command factor; did you mean factors?')

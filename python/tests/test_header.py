@@ -77,11 +77,12 @@ class Numbers(unittest.TestCase):
 
     def test_no_such_refusal(self):
         sentence = re.search(r'default:\s+return "(.*)";', HEADER)[1]
-        for number in (0, 3, 15):
+        for number in (0, 3, 15, 18):
             self.assertEqual(serpentgleam.Refusal(number, 0).reason, sentence)
 
     def test_structures(self):
-        for name, structure in (('result', library.Result), ('factors', library.FactorsResult)):
+        for name, structure in (('result', library.Result), ('answer', library.Answer),
+                                ('factors', library.FactorsResult)):
             self.assertEqual(fields_of(name), [field for field, _ in structure._fields_])
         self.assertEqual(len(fields_of('line')), library.LINE_NUMBERS)
 

@@ -8,16 +8,10 @@ import subprocess
 import time
 import unittest
 
-from support import COMMAND, DOCUMENT, EXAMPLES, bytes_of, command, file_with, folder, long_account, written
+from support import (COMMAND, DOCUMENT, EXAMPLES, bytes_of, command, file_with, folder, little_room, long_account,
+                     written)
 
 from serpentgleam.text import text_from_file
-
-ROOM = 4096  # bytes on a disk that is full after them
-
-
-def little_room():
-    """In a process that is to be started: its files take so many bytes, then a short write and an error."""
-    resource.setrlimit(resource.RLIMIT_FSIZE, (ROOM, ROOM))
 
 
 def ending_signals():
@@ -36,7 +30,8 @@ class FullDisk(unittest.TestCase):
 
     def test_no_room_at_all(self):
         for words in self.calls + (['position', DOCUMENT, '0'], ['factors', 'FCI', '720'], ['factors', 'FCI', '1801'],
-                                   ['check', '--csv', DOCUMENT], ['--help'], ['--version'], ['margin', '--help']):
+                                   ['day', DOCUMENT, '1', '1', '1', '1', '-o', self.text], ['check', '--csv', DOCUMENT],
+                                   ['--help'], ['--version'], ['margin', '--help']):
             with self.subTest(words), open('/dev/full', 'wb') as full:
                 status, _, errors = command(*words, stdout=full)
                 self.assertEqual((status, errors), (2, 'serpentgleam: standard output: No space left on device; the '
@@ -52,7 +47,7 @@ class FullDisk(unittest.TestCase):
                                                            'output is not whole\n'))
 
     def test_a_file_is_not_there_or_stays_as_it_was(self):
-        for words in self.calls[:-1]:
+        for words in (*self.calls[:-1], ['day', self.account, '0', '3100', '2900', '3050']):
             for before in (None, b'before'):
                 place = folder(self)
                 out = os.path.join(place, 'out')
@@ -128,7 +123,8 @@ class ClosedPipe(unittest.TestCase):
 
     def test_every_command(self):
         for words in (['margin', *EXAMPLES], ['margin', '--json', *EXAMPLES], ['position', DOCUMENT, '0'],
-                      ['factors', 'FCI', '720'], ['check', '--csv', *EXAMPLES], ['to-text', DOCUMENT],
+                      ['factors', 'FCI', '720'], ['day', DOCUMENT, '1', '1', '1', '1', '-o', 'none/out'],
+                      ['check', '--csv', *EXAMPLES], ['to-text', DOCUMENT],
                       ['to-file', DOCUMENT.replace('.account', '.txt')], ['--help'], ['--version']):
             self.check(*words)
 
@@ -200,6 +196,8 @@ class HugeFile(unittest.TestCase):
         for name in (huge, '/dev/zero'):
             self.assertRegex(command('margin', '-q', name, **little_memory)[1].decode(), r'\trefused 1 0\t')
             self.assertRegex(command('position', name, '0', **little_memory)[1].decode(), r'\trefused 1 0\t')
+            self.assertEqual(command('day', name, '0', '1', '1', '1', '-o', huge, **little_memory)[:2],
+                             (1, b'refused 1 0\n'))
             self.assertRegex(command('check', name, **little_memory)[1].decode(), ': refusal 1: the file has more than')
             self.assertRegex(command('to-text', name, **little_memory)[2], 'refused 1 0: the file has more than 65536')
             self.assertRegex(command('to-file', name, **little_memory)[2], 'the text has more than 2097152 bytes')

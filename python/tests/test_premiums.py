@@ -10,15 +10,10 @@ from serpentgleam import Refusal, library, margin_or_refusal
 from serpentgleam.text import file_from_text
 
 
-class Answer(ctypes.Structure):
-    """struct serpentgleam_answer."""
-    _fields_ = [(name, ctypes.c_uint64) for name in ('refusal', 'row', 'value')]
-
-
 def premiums(data):
     """Refusal, row and value of the call, for these bytes or for NULL."""
     call = library.load().serpentgleam_premiums
-    call.argtypes, call.restype = [ctypes.c_char_p, ctypes.c_size_t], Answer
+    call.argtypes, call.restype = [ctypes.c_char_p, ctypes.c_size_t], library.Answer
     answer = call(data, len(data or b''))
     return answer.refusal, answer.row, answer.value
 

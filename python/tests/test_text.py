@@ -52,7 +52,7 @@ class RoundTrip(unittest.TestCase):
                 self.assertEqual(file_from_text(text_beside(path)), bytes_of(path))
 
     def test_vectors(self):
-        self.assertEqual(len(VECTORS), 1460)
+        self.assertEqual(len(VECTORS), 1623)
         for data, _ in LAID_OUT:
             self.check(data)
 
@@ -136,9 +136,9 @@ class Form(unittest.TestCase):
         self.assertEqual(nonzero(row_with('held Q=1 PE=2 PB=0')), {'Q': 1, 'PE': 2, 'limiter': 2})
 
     def test_raw_values(self):
-        row = row_with('position side=3 Q=0 PE=0 kind=9 barrier-price=7 PB-without-flag=8 other-flags=144 spare=01ff00')
+        row = row_with('position side=3 Q=0 PE=0 kind=9 barrier-price=7 PB-without-flag=8 other-flags=160 spare=01ff00')
         self.assertEqual(nonzero(row), {
-            'side': 3, 'kind': 9, 'barrier-price': 7, 'PB': 8, 'other-flags': 144, 'spare': 0x00ff01})
+            'side': 3, 'kind': 9, 'barrier-price': 7, 'PB': 8, 'other-flags': 160, 'spare': 0x00ff01})
 
     def test_factors_are_exact(self):
         for text, millionths in (('0.0', 0), ('1.0', 1_000_000), ('1.2', 1_200_000), ('0.000001', 1),

@@ -9,6 +9,10 @@ from serpentgleam.lines import LONGEST_TEXT, Unreadable
 from serpentgleam.reports import legible
 from serpentgleam.text import file_from_text, text_from_file
 
+NO_SUCH_WORD = ('no such word in a position line, which takes held, written, side, series, Q, PE, PB, PB-without-flag, '
+                'up-and-in, down-and-in, up-and-out, down-and-out, kind, barrier-price, REB, premium, knocked-in, '
+                'knocked-out, european, before-annex, other-flags, spare')
+
 
 class Errors(unittest.TestCase):
     def check(self, text, *sentences):
@@ -32,7 +36,7 @@ class Errors(unittest.TestCase):
                 ('held series={} Q=1 PE=1', 'series', '65536', '0 to 65535'),
                 ('held Q=1 PE=1 kind={}', 'kind', '256', '0 to 255'),
                 ('position side={} Q=1 PE=1', 'side', '256', '0 to 255'),
-                ('held Q=1 PE=1 other-flags={}', 'other-flags', '20', '0 to 240 in steps of 16')):
+                ('held Q=1 PE=1 other-flags={}', 'other-flags', '48', '0 to 224 in steps of 32')):
             self.check_position(words.format(value),
                                 f'field {field}: {value} does not fit the field, which holds {holds}')
 
@@ -65,10 +69,8 @@ class Errors(unittest.TestCase):
         self.check('serie call',
                    'line 1, field serie: a line begins with one of cover, series, held, written, position; '
                    'did you mean series?')
-        self.check_position('held Q=1 PE=1 europaen', 'field europaen: no such word in a position line, which takes '
-                            'held, written, side, series, Q, PE, PB, PB-without-flag, up-and-in, down-and-in, '
-                            'up-and-out, down-and-out, kind, barrier-price, REB, premium, knocked-in, european, before-annex, '
-                            'other-flags, spare; did you mean european?')
+        for word, meant in (('europaen', 'european'), ('knocked-ot', 'knocked-out'), ('knockedin', 'knocked-in')):
+            self.check_position(f'held Q=1 PE=1 {word}', f'field {word}: {NO_SUCH_WORD}; did you mean {meant}?')
         self.check_position('held Q=1 PE=1 european=1', 'field european: takes no value')
         self.check_position('held Q=1 PE=1 REB', 'field REB: needs a value, written REB=... without spaces')
         self.check_position('held Q=1 PE=', 'field PE: needs a value, written PE=... without spaces')

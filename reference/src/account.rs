@@ -35,6 +35,18 @@ pub enum Barrier {
     DownAndOut(i64),
 }
 
+impl Barrier {
+    pub fn price(&self) -> Option<i64> {
+        match *self {
+            Barrier::None => None,
+            Barrier::UpAndIn(price)
+            | Barrier::DownAndIn(price)
+            | Barrier::UpAndOut(price)
+            | Barrier::DownAndOut(price) => Some(price),
+        }
+    }
+}
+
 /// A limiter at 0 (possible for a put) is not the same as no limiter.
 #[derive(Clone, Copy, Debug, PartialEq, Eq)]
 pub enum Limiter {
@@ -85,6 +97,8 @@ pub struct Position {
     pub limiter: Limiter,
     /// Flag 1.
     pub already_knocked_in: bool,
+    /// Flag 16.
+    pub already_knocked_out: bool,
     /// Flag 4.
     pub european: bool,
     /// Flag 8.
@@ -107,20 +121,24 @@ pub struct Terms {
     pub limiter: Limiter,
     pub barrier: Barrier,
     pub rebate: i64,
+    /// Touched on an earlier day: nothing but REB is paid any more.
+    pub knocked_out: bool,
 }
 
 impl Position {
     /// Flag 1 makes the position one without barrier and with REB 0.
     pub fn terms(&self) -> Terms {
+        let of_row = Terms {
+            strike: self.strike,
+            limiter: self.limiter,
+            barrier: self.barrier,
+            rebate: self.rebate,
+            knocked_out: self.already_knocked_out,
+        };
         if self.already_knocked_in {
-            Terms { strike: self.strike, limiter: self.limiter, barrier: Barrier::None, rebate: 0 }
+            Terms { barrier: Barrier::None, rebate: 0, ..of_row }
         } else {
-            Terms {
-                strike: self.strike,
-                limiter: self.limiter,
-                barrier: self.barrier,
-                rebate: self.rebate,
-            }
+            of_row
         }
     }
 

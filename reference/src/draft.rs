@@ -1,7 +1,9 @@
 //! Files from fields. A draft may be wrong in any field: nothing is checked
 //! here, so that faulty files can be made as well as good ones.
 
-use crate::position_row::{FLAG_BEFORE_ANNEX, FLAG_EUROPEAN, FLAG_KNOCKED_IN, FLAG_LIMITER};
+use crate::position_row::{
+    FLAG_BEFORE_ANNEX, FLAG_EUROPEAN, FLAG_KNOCKED_IN, FLAG_KNOCKED_OUT, FLAG_LIMITER,
+};
 
 #[derive(Clone, Copy, Debug, PartialEq, Eq)]
 pub struct SeriesDraft {
@@ -118,7 +120,13 @@ impl PositionDraft {
         self
     }
 
-    /// The limiter and knocked-in bits stay, the other two are set as given.
+    /// Already knocked out.
+    pub fn knocked_out(mut self) -> PositionDraft {
+        self.flags |= FLAG_KNOCKED_OUT;
+        self
+    }
+
+    /// The bits of flags 4 and 8 are set as given, the others stay.
     pub fn style(mut self, european: bool, before_annex: bool) -> PositionDraft {
         self.flags &= !(FLAG_EUROPEAN | FLAG_BEFORE_ANNEX);
         if european {

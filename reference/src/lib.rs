@@ -16,13 +16,15 @@
 //! 8. [`paths`]: paths and payments, as the document defines them
 //! 9. [`factors`]: fa and fb from the code and the days
 //! 10. [`factors_list`]: what the factors program prints
+//! 11. [`day`]: a file brought up to date after the close
 //!
 //! Then the tools: [`random`] (numbers from a seed), [`draft`] (files from
 //! fields), [`sample`] (random accounts), [`brute_force`] (checks the four
-//! points of the document's section on paths) and [`vectors`] (test files with
-//! their expected output).
+//! points of the document's section on paths), [`vectors`] (test files with
+//! their expected output) and [`day_vectors`] (the same for days).
 
 pub mod account;
+pub mod day;
 pub mod factors;
 pub mod factors_list;
 pub mod lines;
@@ -35,6 +37,7 @@ pub mod reader;
 pub mod spread;
 
 pub mod brute_force;
+pub mod day_vectors;
 pub mod draft;
 pub mod random;
 pub mod sample;

@@ -33,14 +33,15 @@ pub fn is_path(series: &Series, prices: &[i64]) -> bool {
 pub fn payment(option_type: OptionType, terms: &Terms, prices: &[i64]) -> i64 {
     let touched_up = |price: i64| prices.iter().any(|&x| x >= fine(price));
     let touched_down = |price: i64| prices.iter().any(|&x| x <= fine(price));
-    let alive = match terms.barrier {
+    let alive_after_path = match terms.barrier {
         Barrier::None => true,
         Barrier::UpAndIn(price) => touched_up(price),
         Barrier::DownAndIn(price) => touched_down(price),
         Barrier::UpAndOut(price) => !touched_up(price),
         Barrier::DownAndOut(price) => !touched_down(price),
     };
-    if !alive {
+    // Document 02 [5]: REB on every path.
+    if terms.knocked_out || !alive_after_path {
         return fine(terms.rebate);
     }
     let last = prices[prices.len() - 1];

@@ -7,6 +7,10 @@ use crate::reader::read_account;
 
 /// Unit margin of a written position, in fine units: first rule that applies.
 pub fn written_unit_margin(series: &Series, terms: &Terms) -> i64 {
+    // Document 02 [5]: REB, whatever the minimum.
+    if terms.knocked_out {
+        return fine(terms.rebate);
+    }
     match series.option_type {
         OptionType::Call => written_call(series, terms),
         OptionType::Put => written_put(series, terms),

@@ -7,6 +7,7 @@ pub const FLAG_KNOCKED_IN: u8 = 1;
 pub const FLAG_LIMITER: u8 = 2;
 pub const FLAG_EUROPEAN: u8 = 4;
 pub const FLAG_BEFORE_ANNEX: u8 = 8;
+pub const FLAG_KNOCKED_OUT: u8 = 16;
 
 /// The fields of a row, whatever they say.
 struct Fields {
@@ -48,6 +49,7 @@ pub fn read_position(row: &[u8], all_series: &[Series]) -> Result<Position, i64>
         barrier: fields.barrier(),
         limiter: fields.limiter(),
         already_knocked_in: fields.already_knocked_in(),
+        already_knocked_out: fields.already_knocked_out(),
         european: fields.flag(FLAG_EUROPEAN),
         opened_before_annex: fields.flag(FLAG_BEFORE_ANNEX),
         quantity: fields.quantity,
@@ -82,16 +84,29 @@ impl Fields {
         self.flag(FLAG_KNOCKED_IN)
     }
 
+    fn already_knocked_out(&self) -> bool {
+        self.flag(FLAG_KNOCKED_OUT)
+    }
+
     /// 7: series, side, kind, flags or a spare byte wrong.
     fn codes_right(&self, series_count: usize) -> bool {
-        let known = FLAG_KNOCKED_IN | FLAG_LIMITER | FLAG_EUROPEAN | FLAG_BEFORE_ANNEX;
-        let may_be_knocked_in = self.kind == 1 || self.kind == 2;
         self.series < series_count
             && self.side <= 1
             && self.kind <= 4
-            && self.flags & !known == 0
-            && (!self.already_knocked_in() || may_be_knocked_in)
+            && self.flags_right()
             && self.spare_bytes_zero
+    }
+
+    /// Flag 1 with kinds 1 and 2 only, flag 16 with kinds 3 and 4 only; bits
+    /// without a meaning zero.
+    fn flags_right(&self) -> bool {
+        let known =
+            FLAG_KNOCKED_IN | FLAG_LIMITER | FLAG_EUROPEAN | FLAG_BEFORE_ANNEX | FLAG_KNOCKED_OUT;
+        let may_be_knocked_in = self.kind == 1 || self.kind == 2;
+        let may_be_knocked_out = self.kind == 3 || self.kind == 4;
+        self.flags & !known == 0
+            && (!self.already_knocked_in() || may_be_knocked_in)
+            && (!self.already_knocked_out() || may_be_knocked_out)
     }
 
     /// 8: Q, PE, REB or premium wrong.
@@ -113,8 +128,8 @@ impl Fields {
         }
     }
 
-    /// 10: barrier price outside its rule or range, or REB with kind 0. Flag 1
-    /// does not free a price from this range.
+    /// 10: barrier price outside its rule or range, or REB with kind 0. Neither
+    /// flag 1 nor flag 16 frees a price from this range.
     fn price_right(&self) -> bool {
         if self.kind == 0 {
             self.barrier_price == 0 && self.rebate == 0
@@ -123,14 +138,15 @@ impl Fields {
         }
     }
 
-    /// 11: barrier on the wrong side of PV, except where flag 1 is set.
+    /// 11: barrier on the wrong side of PV, except where flag 1 or flag 16 is
+    /// set.
     fn side_of_pv_right(&self, series: &Series) -> bool {
         let side_right = match self.kind {
             1 | 3 => self.barrier_price > series.pv,
             2 | 4 => self.barrier_price < series.pv,
             _ => true,
         };
-        side_right || self.already_knocked_in()
+        side_right || self.already_knocked_in() || self.already_knocked_out()
     }
 
     fn barrier(&self) -> Barrier {

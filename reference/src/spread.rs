@@ -7,6 +7,10 @@ use crate::account::{fine, Barrier, Limiter, OptionType, Series, Terms};
 /// The unit spread margin in fine units, or nothing where the two do not pair.
 /// Terms are those after flag 1 is applied.
 pub fn unit_spread_margin(series: &Series, held: &Terms, written: &Terms) -> Option<i64> {
+    // Document 02 [5]: with flag 16 never, not even with the same option.
+    if held.knocked_out || written.knocked_out {
+        return None;
+    }
     // a) The same option.
     if held == written {
         return Some(0);
@@ -14,6 +18,10 @@ pub fn unit_spread_margin(series: &Series, held: &Terms, written: &Terms) -> Opt
     if limiters_bar(series.option_type, held.limiter, written.limiter) {
         return None;
     }
+    spread_by_barriers(series, held, written)
+}
+
+fn spread_by_barriers(series: &Series, held: &Terms, written: &Terms) -> Option<i64> {
     match (held.barrier, written.barrier) {
         // b) and c)
         (Barrier::None, Barrier::None) => {

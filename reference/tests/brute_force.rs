@@ -11,7 +11,7 @@ use reference::pairing::Pair;
 use reference::paths::{is_path, payment};
 use reference::random::Random;
 use reference::reader::read_account;
-use reference::sample::{limited_alike, sample_account, Shape};
+use reference::sample::{limited_alike, sample_account, some_knocked_out, Shape};
 
 fn example_account() -> Account {
     read_account(&example().bytes()).unwrap()
@@ -28,11 +28,14 @@ fn random_small_accounts() {
         fb_above_one: true,
     };
     let mut random = Random::new(7);
-    let mut limited = 0;
-    for number in 0..800 {
+    let (mut limited, mut knocked_out) = (0, 0);
+    for number in 0..1_200 {
         let mut draft = sample_account(&mut random, &shape);
         if number >= 400 {
             draft = limited_alike(&mut random, draft);
+        }
+        if number >= 800 {
+            draft = some_knocked_out(&mut random, draft);
         }
         let account = read_account(&draft.bytes()).expect("accepted");
         let claim = reference_claim(&account);
@@ -40,8 +43,10 @@ fn random_small_accounts() {
             panic!("{violation}\n{account:#?}\n{claim:#?}");
         }
         limited += limited_pairs(&account, &claim.margin);
+        knocked_out += account.positions.iter().filter(|p| p.already_knocked_out).count();
     }
     assert!(limited > 50, "{limited} limited pairs");
+    assert!(knocked_out > 200, "{knocked_out} rows knocked out");
 }
 
 /// The violation found in a changed answer to the example.
@@ -134,6 +139,30 @@ fn pairs_barred_by_limiters_are_found() {
     ] {
         assert_eq!(claimed_pair(type_byte, of_held, of_written), Ok(()));
     }
+}
+
+/// The violation found in a changed answer to a written knock-out with flag 16,
+/// REB 40 and MM 150.
+fn found_of_knocked_out(change: impl Fn(&mut Claim)) -> String {
+    let row = PositionDraft::plain(0, WRITTEN, 3100, 10).with_barrier(UP_AND_OUT, 3500, 40);
+    let draft = Draft::new(vec![SeriesDraft::checked(CALL)], vec![row.knocked_out()]);
+    let account = read_account(&draft.bytes()).expect("accepted");
+    let mut claim = reference_claim(&account);
+    assert!(check(&account, &claim, 4).is_ok());
+    change(&mut claim);
+    check(&account, &claim, 4).unwrap_err()
+}
+
+/// Its least amount is REB: no fine unit less and none more, whatever MM is.
+#[test]
+fn other_unit_margins_of_a_row_knocked_out_are_found() {
+    let tick = 1_000_000;
+    for unit in [0, 40 * tick - 1, 40 * tick + 1, 150 * tick] {
+        let violation = found_of_knocked_out(|claim| claim.units[0] = unit);
+        assert!(violation.starts_with("the least amount"), "{violation}");
+    }
+    let violation = found_of_knocked_out(|claim| claim.margin.total -= 1);
+    assert!(violation.starts_with("the cover"), "{violation}");
 }
 
 /// Nothing is owed on any path of any series.

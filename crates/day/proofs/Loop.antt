@@ -1,22 +1,45 @@
--- The loop over the rows: what is known of the file when its first r rows have their new flags.
+-- One row's flags written or left, and the loop over the rows: what is known of the file when its first r rows have their new
+-- flags.
 -- Assumes nothing.
 use Prim.Native.Nat.{ℕ, _+_, _*_, _≤_, _<_}
 use mathlib.Core.List.{List}
 use mathlib.Core.Path.{_≡_, sym, _∙_, ap, subst}
 use native.Mathlib.Omega.{arith}
+use borrow.Author.Tests.{eq-eqb, ne-eqb}
 use lib.ListN.{length, set}
-use lib.Seq.{sets}
+use lib.Seq.{set-getD, sets}
 use Rattle.account.proofs.KnownRows.{position-within}
 use Rattle.account.specs.Known.{Known}
-use Rattle.rules.proofs.DayLaws.{flags-length, flags-next, flags-pending}
-use Rattle.rules.proofs.Stores.{row-before}
-use Rattle.rules.specs.Day.{dayWritten, flagsAfter, flagsPlace, flagsWritten, pvPlace}
-use Rattle.rules.specs.File.{positionRow}
+use Rattle.rules.proofs.DayLaws.{flags-length, flags-next, flags-other, flags-own, flags-pending}
+use Rattle.rules.specs.Day.{dayWritten, flagsAfter, flagsCrossed, flagsPlace, flagsWritten, pvPlace}
+use Rattle.rules.specs.File.{barrierOf, positionRow}
 use Rattle.rules.specs.Limits.{Placed}
 use Rattle.rules.specs.Writing.{bytes4}
 use Rattle.rules.specs.declared.Day.{Day}
 use Rattle.rules.specs.declared.Layout.{Layout}
 use Rattle.rules.specs.declared.PositionRow.{PositionRow}
+
+-- Row r of any file with rows that stand within it: where its flags stand, and what its two ways leave.
+module _ (file : List ℕ) (l : Layout) (d : Day) (r : ℕ) (placed : Placed file l) (there : r < l .positions) where
+  pub row-ends : (l .width * r ≤ 8_192) × (l .positionsStart + l .width * r + 32 ≤ length file)
+  row-ends =
+      let e : l .width * r ≡ 32 * r = ap (λ (w : ℕ). w * r) (placed .width-is) in
+      (omega (arith, placed .positions-most), omega (arith, placed .room))
+
+  -- The row as it was read.
+  module _ (row : PositionRow) (read : row ≡ positionRow file l r) where
+    pub own-row : (f : ℕ) → row .series ≡ d .series → f ≡ flagsCrossed d (barrierOf (row .kind) (row .price)) (row .flags)
+        → set file (flagsPlace l r) f ≡ set file (flagsPlace l r) (flagsAfter d (positionRow file l r))
+    own-row f e is =
+        ap (set file (flagsPlace l r)) (is ∙ sym (flags-own d row (eq-eqb (row .series) (d .series) e)) ∙ ap (flagsAfter d) read)
+
+    -- The flags of another series' row are there already.
+    pub other-row : (row .series ≡ d .series → ⊥) → file ≡ set file (flagsPlace l r) (flagsAfter d (positionRow file l r))
+    unfolding positionRow
+    other-row n =
+        sym (ap (λ (x : PositionRow). set file (flagsPlace l r) (flagsAfter d x)) (sym read)
+        ∙ ap (set file (flagsPlace l r)) (flags-other d row (ne-eqb (row .series) (d .series) n) ∙ ap (λ (x : PositionRow). x .flags) read)
+        ∙ set-getD file (flagsPlace l r) 0)
 
 module _ (b : List ℕ) (l : Layout) (d : Day) (k : Known b l) (file : List ℕ) (r : ℕ) (is : file ≡ flagsWritten b l d r) where
   pub same-size : length file ≡ length b
@@ -35,25 +58,18 @@ module _ (b : List ℕ) (l : Layout) (d : Day) (k : Known b l) (file : List ℕ)
       }
 
   module _ (there : r < l .positions) where
-    -- Where row r stands.
-    pub row-ends : (l .width * r ≤ 8_192) × (l .positionsStart + l .width * r + 32 ≤ length file)
-    row-ends =
-        let e : l .width * r ≡ 32 * r = ap (λ (w : ℕ). w * r) (k .placed .width-is) in
-        (omega (arith, k .placed .positions-most), omega (arith, k .placed .room, same-size))
+    row-is : positionRow file l r ≡ positionRow b l r
+    row-is = ap (λ (c : List ℕ). positionRow c l r) is ∙ flags-pending b l d (k .placed) r
 
-    -- The row that was read, and the flags f that were worked out from it.
-    module _ (row : PositionRow) (read : row ≡ positionRow file l r) where
-      row-is : row ≡ positionRow b l r
-      row-is = read ∙ ap (λ (c : List ℕ). positionRow c l r) is ∙ flags-pending b l d (k .placed) r
+    pub row-flags : positionRow file l r .flags ≤ 31
+    row-flags = subst (λ (x : PositionRow). x .flags ≤ 31) (sym row-is) (position-within b l k r there .flags-most)
 
-      pub row-flags : row .flags ≤ 31
-      row-flags = subst (λ (x : PositionRow). x .flags ≤ 31) (sym row-is) (position-within b l k r there .flags-most)
-
-      pub stored : (f : ℕ) → f ≡ flagsAfter d row → set file (flagsPlace l r) f ≡ flagsWritten b l d (r + 1)
-      stored f g =
-          ap (set file (flagsPlace l r)) (g ∙ ap (flagsAfter d) row-is)
-          ∙ ap (λ (c : List ℕ). set c (flagsPlace l r) (flagsAfter d (positionRow b l r))) is
-          ∙ flags-next b l d (k .placed) r
+    pub stored : (c : List ℕ) → c ≡ set file (flagsPlace l r) (flagsAfter d (positionRow file l r)) → c ≡ flagsWritten b l d (r + 1)
+    stored c e =
+        e
+        ∙ ap (λ (x : PositionRow). set file (flagsPlace l r) (flagsAfter d x)) row-is
+        ∙ ap (λ (x : List ℕ). set x (flagsPlace l r) (flagsAfter d (positionRow b l r))) is
+        ∙ flags-next b l d (k .placed) r
 
 -- The flags and then the PV, each by its own function: x is the file between them, c after both.
 pub day-by-stores : (b : List ℕ) (l : Layout) (d : Day) (c x : List ℕ) → x ≡ flagsWritten b l d (l .positions)

@@ -4,11 +4,13 @@ use account::values::barrier_of;
 use rules::Barrier;
 use rules::Day;
 use rules::Layout;
-use rules::PositionRow;
-ghost use Prim.Native.Nat.{_≤_};
+ghost use Prim.Native.Nat.{_≤_, _<_};
+ghost use lib.ListN.{set};
 ghost use mathlib.Core.Path.{_≡_};
 ghost use Rattle.account.specs.Known.{Known};
-ghost use Rattle.rules.specs.Day.{crossedIn, crossedOut, flagsAfter, flagsCrossed, flagsWritten};
+ghost use Rattle.rules.specs.Day.{crossedIn, crossedOut, flagsAfter, flagsCrossed, flagsPlace, flagsWritten};
+ghost use Rattle.rules.specs.File.{positionRow};
+ghost use Rattle.rules.specs.Limits.{Placed};
 
 // The day knocked the barrier in.
 fn crossed_in(d: Day, barrier: Barrier) -> bool
@@ -50,29 +52,27 @@ fn flags_crossed(d: Day, barrier: Barrier, flags: u32) -> u32
     flags
 }
 
-// The flags of any row after the day: those of another series' rows stay.
-fn flags_after(d: Day, r: PositionRow) -> u32
-    requires { ⌜ r .flags ≤ 31 ⌝ }
-    ensures { λ f. ⌜ (f ≡ flagsAfter d r) × (f ≤ 31) ⌝ }
+// Writes row r's flags, if the row is of the day's series.
+fn write_row_flags(file: &mut [u8], l: Layout, d: Day, r: usize)
+    requires { ⌜ Placed (now file) l × (r < l .positions) × (positionRow (now file) l r .flags ≤ 31) ⌝ }
+    ensures { λ _. ⌜ now (file .exit) ≡ set (now (file .entry)) (flagsPlace l r) (flagsAfter d (positionRow (now (file .entry)) l r)) ⌝ }
 {
-    if (r.series as u64) == d.series {
-        return flags_crossed(d, barrier_of(r.kind, r.price), r.flags);
+    let row = position_row(file, l, r);
+    if (row.series as u64) == d.series {
+        let flags = flags_crossed(d, barrier_of(row.kind, row.price), row.flags);
+        file[l.positionsStart + l.width * r + 4] = flags as u8;
     }
-    r.flags
 }
 
-// Writes every row's flags.
+// Writes the flags of all rows of the day's series.
 pub fn write_flags(file: &mut [u8], l: Layout, d: Day)
     requires { ⌜ Known (now file) l ⌝ }
     ensures { λ _. ⌜ now (file .exit) ≡ flagsWritten (now (file .entry)) l d (l .positions) ⌝ }
 {
     let p = l.positions;
-    let start = l.positionsStart;
-    let width = l.width;
     let mut r = 0;
     while r < p {
-        let row = position_row(file, l, r);
-        file[start + width * r + 4] = flags_after(d, row) as u8;
+        write_row_flags(file, l, d, r);
         r += 1;
     }
 }

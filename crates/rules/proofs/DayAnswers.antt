@@ -4,16 +4,17 @@
 use Prim.Native.Nat.{ℕ, _≤_, _<_}
 use mathlib.Core.Bool.{Bool, true, false, _||_}
 use mathlib.Core.List.{List}
-use mathlib.Core.Path.{_≡_, refl, sym, _∙_, ap, subst}
+use mathlib.Core.Logic.{_⊎_, inl, inr}
+use mathlib.Core.Path.{_≡_, refl, sym, _∙_, ap, ap₂, subst}
 use native.Mathlib.Omega.{arith}
-use borrow.Author.Tests.{le-leb, le-ltb, lt-leb}
+use borrow.Author.Tests.{le-leb, le-ltb, leb-false, leb-true, lt-leb}
 use lib.Dec.{leb, ltb}
 use Rattle.rules.proofs.Answers.{accepted-read, refused-read}
 use Rattle.rules.proofs.Chain.{five-fail, in-range}
 use Rattle.rules.proofs.DayPromises.{applied-clean, day-applied, file-refused, prices-refused, series-refused}
 use Rattle.rules.specs.Day.{DayWithin, dayAnswer, dayWritten, fileAfter, wrongDay}
 use Rattle.rules.specs.File.{Account, accountOf, layout}
-use Rattle.rules.specs.Refusals.{accepted, fileRead, meaning, number, outside, refused}
+use Rattle.rules.specs.Refusals.{accepted, fileRead, meaning, meant, number, outside, refused}
 use Rattle.rules.specs.declared.Day.{Day}
 use Rattle.rules.specs.declared.DayAnswer.{DayAnswer}
 use Rattle.rules.specs.declared.DayAnswer.the-variants.{Applied, NotApplied}
@@ -80,3 +81,43 @@ module _ (b : List ℕ) (d : Day) where
           let m = file-refused b d b w i q refl .0 ∙ z in
           let no-way : _≡_ {A = ℕ} 0 1 = cc in
           absurd (omega arith)
+
+  -- A refusal is the reading's; or 16, where the account has no such series; or 17, where it has. The latter two have row 0.
+  pub day-refusal-is : (w : Refusal) (i : ℕ) → dayAnswer b d ≡ NotApplied w i
+      → (meaning b ≡ refused (number w) i)
+      ⊎ ((a : Account) × (meaning b ≡ accepted a) × (i ≡ 0) × (((a .series ≤ d .series) × (number w ≡ 16)) ⊎ ((d .series < a .series) × (number w ≡ 17))))
+  unfolding meaning
+  day-refusal-is w i z = go (fileRead b) refl
+    where
+      same-refusal : (v : Refusal) (k : ℕ) → NotApplied v k ≡ dayAnswer b d → (number v ≡ number w) × (k ≡ i)
+      same-refusal v k e =
+          let m : NotApplied v k ≡ NotApplied w i = e ∙ z in
+          let p : v ≡ w = cc in
+          let q : k ≡ i = cc in
+          (ap number p, q)
+
+      by-series : (l : Layout) → fileRead b ≡ Accepted l → (t : Bool) → leb (l .series) (d .series) ≡ t
+          → (i ≡ 0) × (((l .series ≤ d .series) × (number w ≡ 16)) ⊎ ((d .series < l .series) × (number w ≡ 17)))
+      by-series l e true q =
+          let told = same-refusal SeriesAskedFor 0 (series-refused b d l e b q refl .0) in
+          (sym (told .1), inl (leb-true (l .series) (d .series) q, sym (told .0)))
+      by-series l e false q = by-prices (wrongDay d) refl
+        where
+          by-prices : (u : Bool) → wrongDay d ≡ u → (i ≡ 0) × (((l .series ≤ d .series) × (number w ≡ 16)) ⊎ ((d .series < l .series) × (number w ≡ 17)))
+          by-prices true x =
+              let told = same-refusal DayPrices 0 (prices-refused b d l e b q x refl .0) in
+              (sym (told .1), inr (leb-false (l .series) (d .series) q, sym (told .0)))
+          by-prices false x =
+              let m : Applied ≡ NotApplied w i = day-applied b d l e (dayWritten b l d) q x refl .0 ∙ z in
+              let no-way : _≡_ {A = ℕ} 0 1 = cc in
+              absurd (omega arith)
+
+      go : (x : FileRead) → fileRead b ≡ x
+          → (meant b x ≡ refused (number w) i)
+          ⊎ ((a : Account) × (meant b x ≡ accepted a) × (i ≡ 0) × (((a .series ≤ d .series) × (number w ≡ 16)) ⊎ ((d .series < a .series) × (number w ≡ 17))))
+      go (Refused v k) q =
+          let told = same-refusal v k (file-refused b d b v k q refl .0) in
+          inl (ap₂ refused (told .0) (told .1))
+      go (Accepted l) q =
+          let told = by-series l q (leb (l .series) (d .series)) refl in
+          inr (accountOf b l, refl, told .0, told .1)

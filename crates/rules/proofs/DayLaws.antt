@@ -135,6 +135,12 @@ module _ (b : List ℕ) (l : Layout) (d : Day) (placed : Placed b l) where
         go (inl (r, h, e)) = rw e (other r h e)
         go (inr none) = day-off j none pv-off
 
+    -- The PV is four bytes: the one before it, which is the cover sheet's or another series row's, and the one after it, which is
+    -- fa's, are not written.
+    pub beside-pv : ((j : ℕ) → j + 1 ≡ pvPlace l (d .series) → Untouched b l d j) × Untouched b l d (pvPlace l (d .series) + 4)
+    beside-pv =
+        (λ j e. (λ r h q at. omega (arith, before-rows), λ k h at. omega arith), (λ r h q at. omega (arith, before-rows), λ k h at. omega arith))
+
     -- What follows the rows.
     pub trailer-same : Agree (dayWritten b l d) b (length b - 12) (length b)
     trailer-same j h k =

@@ -3,10 +3,12 @@
 
 use std::process::ExitCode;
 
+use reference::account::Account;
 use reference::brute_force::{check, limited_pairs, reference_claim};
+use reference::day::apply_day;
 use reference::random::Random;
 use reference::reader::read_account;
-use reference::sample::{limited_alike, sample_account, Shape};
+use reference::sample::{limited_alike, sample_account, sample_day, some_knocked_out, Shape};
 
 const LONGEST_PATH: usize = 4;
 
@@ -30,6 +32,8 @@ const EMPTY: Shape = Shape { series: (1, 32), positions: (0, 0), ..WIDE };
 struct Tried {
     pairs: usize,
     limited_pairs: usize,
+    /// Rows with flag 16.
+    knocked_out: usize,
     steps: u64,
 }
 
@@ -44,10 +48,10 @@ fn main() -> ExitCode {
         return ExitCode::from(2);
     };
     match try_accounts(count, seed) {
-        Ok(Tried { pairs, limited_pairs, steps }) => {
+        Ok(Tried { pairs, limited_pairs, knocked_out, steps }) => {
             println!(
                 "seed {seed}: {count} accounts, {pairs} pairs, {limited_pairs} limited, \
-                 {steps} path steps, no violation"
+                 {knocked_out} rows knocked out, {steps} path steps, no violation"
             );
             ExitCode::SUCCESS
         }
@@ -58,28 +62,46 @@ fn main() -> ExitCode {
     }
 }
 
-/// In every other sixteen accounts limiters stand at and beside each other.
 fn try_accounts(count: u64, seed: u64) -> Result<Tried, String> {
     let mut random = Random::new(seed);
     let mut all = Tried::default();
     for tried in 0..count {
-        let shape = match tried % 16 {
-            5 => EMPTY,
-            6 | 14 => WIDE,
-            7 | 15 => HIGH_FB,
-            _ => SMALL,
-        };
-        let mut draft = sample_account(&mut random, &shape);
-        if tried / 16 % 2 == 1 {
-            draft = limited_alike(&mut random, draft);
-        }
-        let account = read_account(&draft.bytes())
-            .map_err(|refusal| format!("account {tried}: the sample is refused: {refusal:?}"))?;
+        let account = account_to_try(&mut random, tried)
+            .map_err(|words| format!("account {tried}: {words}"))?;
         let claim = reference_claim(&account);
         all.steps += check(&account, &claim, LONGEST_PATH)
             .map_err(|words| format!("account {tried}: {words}\n{account:#?}\n{claim:#?}"))?;
         all.pairs += claim.margin.pairs.len();
         all.limited_pairs += limited_pairs(&account, &claim.margin);
+        all.knocked_out += account.positions.iter().filter(|p| p.already_knocked_out).count();
     }
     Ok(all)
+}
+
+/// In every other sixteen accounts limiters stand at and beside each other; in
+/// every other thirty-two knock-outs have flag 16; every other sixty-four are
+/// as they are after a day.
+fn account_to_try(random: &mut Random, tried: u64) -> Result<Account, String> {
+    let shape = match tried % 16 {
+        5 => EMPTY,
+        6 | 14 => WIDE,
+        7 | 15 => HIGH_FB,
+        _ => SMALL,
+    };
+    let mut draft = sample_account(random, &shape);
+    if tried / 16 % 2 == 1 {
+        draft = limited_alike(random, draft);
+    }
+    if tried / 32 % 2 == 1 {
+        draft = some_knocked_out(random, draft);
+    }
+    let mut bytes = draft.bytes();
+    let account =
+        read_account(&bytes).map_err(|refusal| format!("the sample is refused: {refusal:?}"))?;
+    if tried / 64 % 2 == 1 {
+        let day = sample_day(random, &account);
+        apply_day(&mut bytes, &day).map_err(|refusal| format!("{day:?}: {refusal:?}"))?;
+        return read_account(&bytes).map_err(|refusal| format!("after {day:?}: {refusal:?}"));
+    }
+    Ok(account)
 }

@@ -1,7 +1,7 @@
 //! The paths that are tried: every path of up to a given length whose prices
 //! come from a list of prices of interest.
 
-use crate::account::{fine, Account, Barrier, Limiter, Series};
+use crate::account::{fine, Account, Limiter, Series};
 use crate::paths::{is_path, may_follow};
 
 /// Prices from L to H at which something may change: L, H, PV, strikes,
@@ -16,16 +16,10 @@ pub fn prices_of_interest(account: &Account, number: usize) -> Vec<i64> {
         if let Limiter::At(price) = terms.limiter {
             prices.push(fine(price));
         }
-        match terms.barrier {
-            Barrier::None => {}
-            Barrier::UpAndIn(price)
-            | Barrier::DownAndIn(price)
-            | Barrier::UpAndOut(price)
-            | Barrier::DownAndOut(price) => {
-                prices.extend([fine(price) - 1, fine(price), fine(price) + 1]);
-                // The farthest prices after the barrier is met exactly.
-                prices.extend([price * series.fa, price * series.fb]);
-            }
+        if let Some(price) = terms.barrier.price() {
+            prices.extend([fine(price) - 1, fine(price), fine(price) + 1]);
+            // The farthest prices after the barrier is met exactly.
+            prices.extend([price * series.fa, price * series.fb]);
         }
     }
     prices.retain(|&price| series.low() <= price && price <= series.high());

@@ -134,12 +134,18 @@ impl<'a> Watch<'a> {
 
     /// The least amount, second half. The least amount that covers a row on
     /// the paths tried and is at least MM, with one fine unit added, is at
-    /// least the unit margin.
+    /// least the unit margin. With flag 16 it is so without the minimum and
+    /// without a fine unit more.
     fn check_least_amount(&self) -> Result<(), String> {
         for &row in &self.written {
-            let least = max(self.series.minimum_margin(), self.largest_payment[row]);
+            let pays = self.largest_payment[row];
+            let (least, added) = if self.account.positions[row].already_knocked_out {
+                (pays, 0)
+            } else {
+                (max(self.series.minimum_margin(), pays), 1)
+            };
             let unit = self.claim.units[row];
-            if least + 1 < unit {
+            if least + added < unit {
                 return Err(format!(
                     "the least amount: {least} covers row {row} on all paths tried, \
                      its unit margin is {unit}"

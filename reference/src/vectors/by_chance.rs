@@ -4,7 +4,7 @@ use super::rows::sound;
 use super::{Cases, Expect, SEED};
 use crate::position_row::FLAG_LIMITER;
 use crate::random::Random;
-use crate::sample::{limited_alike, sample_account, sample_series, Shape};
+use crate::sample::{limited_alike, sample_account, sample_series, some_knocked_out, Shape};
 
 const MIDDLE: Shape = Shape {
     series: (1, 6),
@@ -64,6 +64,19 @@ pub fn add_limited_accounts(cases: &mut Cases) {
         for number in 0..7 {
             let draft = sample_account(&mut random, &shape);
             cases.accept(format!("{name} {number}"), limited_alike(&mut random, draft));
+        }
+    }
+}
+
+/// Flag 16 on about half of the knock-outs.
+pub fn add_knocked_out_accounts(cases: &mut Cases) {
+    cases.begin("random, knocked out");
+    let mut random = Random::new(SEED + 6);
+    for (name, shape) in [("small prices", SMALL), ("middle prices", MIDDLE), ("all prices", WIDE)]
+    {
+        for number in 0..8 {
+            let draft = sample_account(&mut random, &shape);
+            cases.accept(format!("{name} {number}"), some_knocked_out(&mut random, draft));
         }
     }
 }

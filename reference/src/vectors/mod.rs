@@ -12,16 +12,19 @@ mod equalities;
 mod extremes;
 mod kinds_and_flags;
 mod knock_out_spreads;
+mod knocked_out;
 mod limited_spreads;
 mod many_rows;
 mod no_positions;
 mod other_spreads;
 mod position_faults;
 mod row_faults;
-mod rows;
+pub(crate) mod rows;
 mod ties;
 mod trailer_faults;
 mod two_faults;
+
+pub(crate) use two_faults::put_fault;
 
 use crate::draft::Draft;
 use crate::output::margin_output;
@@ -93,6 +96,9 @@ pub fn all_cases() -> Vec<Case> {
         by_chance::add_accounts,
         by_chance::add_limited_accounts,
         by_chance::add_changed_bytes,
+        knocked_out::add,
+        knocked_out::add_faults,
+        by_chance::add_knocked_out_accounts,
     ] {
         add(&mut cases);
     }

@@ -24,7 +24,7 @@ pub const POSITION_FAULTS: [PositionFault; 64] = [
     fault(7, "side 255", |r| r.side = 255),
     fault(7, "kind 5", |r| { r.kind = 5; r.barrier = 3500 }),
     fault(7, "kind 255", |r| r.kind = 255),
-    fault(7, "flag 16", |r| r.flags |= 16),
+    fault(7, "flag 16 with kind 0", |r| r.flags |= 16),
     fault(7, "flag 32", |r| r.flags |= 32),
     fault(7, "flag 64", |r| r.flags |= 64),
     fault(7, "flag 128", |r| r.flags |= 128),

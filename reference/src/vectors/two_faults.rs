@@ -36,7 +36,7 @@ fn in_two_rows(cases: &mut Cases) {
 
 /// One fault for each number, put into the given row of its own table. Gives
 /// the place of the fault in the order of checks: table, row, number.
-fn put_fault(draft: &mut Draft, number: i64, last: bool) -> (usize, usize, i64) {
+pub fn put_fault(draft: &mut Draft, number: i64, last: bool) -> (usize, usize, i64) {
     let series_row = if last { 2 } else { 0 };
     let position_row = if last { 4 } else { 0 };
     match number {

@@ -1,5 +1,5 @@
 use Prim.Native.Nat.{_-_, _≤_, ℕ}
-use Rattle.day.proofs.Loop.{row-ends, row-flags, same-size, still-placed, stored}
+use Rattle.day.proofs.Loop.{row-flags, same-size, still-placed, stored}
 use Rattle.day.proofs.flags.write_flags.Statement.{statement}
 use Rattle.day.proofs.flags.write_flags.Tie as tie
 use Rattle.rules.proofs.DayLaws.{flags-none}
@@ -9,43 +9,25 @@ use mathlib.Core.Path.{_≡_, subst}
 use native.Mathlib.Omega.{arith}
 
 abbrev Inv-loop : tie.InvT-loop
-Inv-loop file₀ l d p start width r₀ file r = (r ≤ p) × (file ≡ flagsWritten file₀ l d r)
+Inv-loop file₀ l d p r₀ file r = (r ≤ p) × (file ≡ flagsWritten file₀ l d r)
 
 abbrev μ-loop : tie.MeasureT-loop
-μ-loop file₀ l d p start width r₀ file r = p - r
+μ-loop file₀ l d p r₀ file r = p - r
 
 loop-holds : tie.Need-loop-holds Inv-loop μ-loop
 loop-holds c = (omega arith, flags-none (now (c .before .args .file)) (c .before .args .l) (c .before .args .d) (c .before .pre .placed))
 
-position-row-requires : tie.Need-position-row-requires Inv-loop μ-loop
-position-row-requires c κs = (still-placed (now (c .before .before .before .before .args .file)) (c .before .before .before .before .args .l) (c .before .before .before .before .args .d) (c .before .before .before .before .pre) (c .before .before .loop .file) (c .before .before .loop .r) (c .before .before .loop .inv .1), c .before .loop-test .taken)
-
-flags-after-requires : tie.Need-flags-after-requires Inv-loop μ-loop
-flags-after-requires c κs = row-flags (now (c .before .before .before .before .before .args .file)) (c .before .before .before .before .before .args .l) (c .before .before .before .before .before .args .d) (c .before .before .before .before .before .pre) (c .before .before .before .loop .file) (c .before .before .before .loop .r) (c .before .before .before .loop .inv .1) (c .before .before .loop-test .taken) (c .position-row .result) (c .position-row .ensures)
-
-cast-file : tie.Need-cast-file Inv-loop μ-loop
-cast-file c = omega (arith, c .flags-after .ensures .1)
-
-mul-file : tie.Need-mul-file Inv-loop μ-loop
-mul-file c = omega (arith, row-ends (now (c .before .before .before .before .before .before .args .file)) (c .before .before .before .before .before .before .args .l) (c .before .before .before .before .before .before .args .d) (c .before .before .before .before .before .before .pre) (c .before .before .before .before .loop .file) (c .before .before .before .before .loop .r) (c .before .before .before .before .loop .inv .1) (c .before .before .before .loop-test .taken), c .before .before .before .before .before .before .pre .placed .size-most, same-size (now (c .before .before .before .before .before .before .args .file)) (c .before .before .before .before .before .before .args .l) (c .before .before .before .before .before .before .args .d) (c .before .before .before .before .before .before .pre) (c .before .before .before .before .loop .file) (c .before .before .before .before .loop .r) (c .before .before .before .before .loop .inv .1))
-
-add-file : tie.Need-add-file Inv-loop μ-loop
-add-file c = omega (arith, row-ends (now (c .before .before .before .before .before .before .args .file)) (c .before .before .before .before .before .before .args .l) (c .before .before .before .before .before .before .args .d) (c .before .before .before .before .before .before .pre) (c .before .before .before .before .loop .file) (c .before .before .before .before .loop .r) (c .before .before .before .before .loop .inv .1) (c .before .before .before .loop-test .taken), c .before .before .before .before .before .before .pre .placed .size-most, same-size (now (c .before .before .before .before .before .before .args .file)) (c .before .before .before .before .before .before .args .l) (c .before .before .before .before .before .before .args .d) (c .before .before .before .before .before .before .pre) (c .before .before .before .before .loop .file) (c .before .before .before .before .loop .r) (c .before .before .before .before .loop .inv .1))
-
-add-file-2 : tie.Need-add-file-2 Inv-loop μ-loop
-add-file-2 c = omega (arith, row-ends (now (c .before .before .before .before .before .before .args .file)) (c .before .before .before .before .before .before .args .l) (c .before .before .before .before .before .before .args .d) (c .before .before .before .before .before .before .pre) (c .before .before .before .before .loop .file) (c .before .before .before .before .loop .r) (c .before .before .before .before .loop .inv .1) (c .before .before .before .loop-test .taken), c .before .before .before .before .before .before .pre .placed .size-most, same-size (now (c .before .before .before .before .before .before .args .file)) (c .before .before .before .before .before .before .args .l) (c .before .before .before .before .before .before .args .d) (c .before .before .before .before .before .before .pre) (c .before .before .before .before .loop .file) (c .before .before .before .before .loop .r) (c .before .before .before .before .loop .inv .1))
-
-slice-write-file : tie.Need-slice-write-file Inv-loop μ-loop
-slice-write-file c = omega (arith, row-ends (now (c .before .before .before .before .before .before .args .file)) (c .before .before .before .before .before .before .args .l) (c .before .before .before .before .before .before .args .d) (c .before .before .before .before .before .before .pre) (c .before .before .before .before .loop .file) (c .before .before .before .before .loop .r) (c .before .before .before .before .loop .inv .1) (c .before .before .before .loop-test .taken), c .before .before .before .before .before .before .pre .placed .size-most, same-size (now (c .before .before .before .before .before .before .args .file)) (c .before .before .before .before .before .before .args .l) (c .before .before .before .before .before .before .args .d) (c .before .before .before .before .before .before .pre) (c .before .before .before .before .loop .file) (c .before .before .before .before .loop .r) (c .before .before .before .before .loop .inv .1))
+write-row-flags-requires : tie.Need-write-row-flags-requires Inv-loop μ-loop
+write-row-flags-requires c κs = (still-placed (now (c .before .before .before .before .args .file)) (c .before .before .before .before .args .l) (c .before .before .before .before .args .d) (c .before .before .before .before .pre) (c .before .before .loop .file) (c .before .before .loop .r) (c .before .before .loop .inv .1), c .before .loop-test .taken, row-flags (now (c .before .before .before .before .args .file)) (c .before .before .before .before .args .l) (c .before .before .before .before .args .d) (c .before .before .before .before .pre) (c .before .before .loop .file) (c .before .before .loop .r) (c .before .before .loop .inv .1) (c .before .loop-test .taken))
 
 add-r : tie.Need-add-r Inv-loop μ-loop
-add-r c = omega (arith, c .before .before .before .loop-test .taken, c .before .before .before .before .before .before .pre .placed .positions-most)
+add-r c = omega (arith, c .before .before .before .before .loop-test .taken, c .before .before .before .before .before .before .before .pre .placed .positions-most)
 
 loop-less : tie.Need-loop-less Inv-loop μ-loop
-loop-less c = omega (arith, c .before .before .before .loop-test .taken)
+loop-less c = omega (arith, c .before .before .before .before .loop-test .taken)
 
 loop-again : tie.Need-loop-again Inv-loop μ-loop
-loop-again c = (omega (arith, c .before .before .before .loop-test .taken), stored (now (c .before .before .before .before .before .before .args .file)) (c .before .before .before .before .before .before .args .l) (c .before .before .before .before .before .before .args .d) (c .before .before .before .before .before .before .pre) (c .before .before .before .before .loop .file) (c .before .before .before .before .loop .r) (c .before .before .before .before .loop .inv .1) (c .before .before .before .loop-test .taken) (c .before .position-row .result) (c .before .position-row .ensures) (c .flags-after .result) (c .flags-after .ensures .0))
+loop-again c = (omega (arith, c .before .before .before .before .loop-test .taken), stored (now (c .before .before .before .before .before .before .before .args .file)) (c .before .before .before .before .before .before .before .args .l) (c .before .before .before .before .before .before .before .args .d) (c .before .before .before .before .before .before .before .pre) (c .before .before .before .before .before .loop .file) (c .before .before .before .before .before .loop .r) (c .before .before .before .before .before .loop .inv .1) (c .before .before .before .before .loop-test .taken) _ (c .before .before .write-row-flags .ensures))
 
 same-length : tie.Need-same-length Inv-loop μ-loop
 same-length c = same-size (now (c .before .before .before .args .file)) (c .before .before .before .args .l) (c .before .before .before .args .d) (c .before .before .before .pre) (c .before .loop .file) (c .before .loop .r) (c .before .loop .inv .1)
@@ -60,13 +42,7 @@ write-flags-spec =
     Inv-loop
     μ-loop
     loop-holds
-    position-row-requires
-    flags-after-requires
-    cast-file
-    mul-file
-    add-file
-    add-file-2
-    slice-write-file
+    write-row-flags-requires
     add-r
     loop-less
     loop-again
