@@ -1,10 +1,9 @@
 -- One row's flags written or left, and the loop over the rows: what is known of the file when its first r rows have their new
 -- flags.
 -- Assumes nothing.
-use Prim.Native.Nat.{ℕ, _+_, _*_, _≤_, _<_}
+use Prim.Native.Nat.{ℕ, _+_, _≤_, _<_}
 use mathlib.Core.List.{List}
 use mathlib.Core.Path.{_≡_, sym, _∙_, ap, subst}
-use native.Mathlib.Omega.{arith}
 use borrow.Author.Tests.{eq-eqb, ne-eqb}
 use lib.ListN.{length, set}
 use lib.Seq.{set-getD, sets}
@@ -19,13 +18,8 @@ use Rattle.rules.specs.declared.Day.{Day}
 use Rattle.rules.specs.declared.Layout.{Layout}
 use Rattle.rules.specs.declared.PositionRow.{PositionRow}
 
--- Row r of any file with rows that stand within it: where its flags stand, and what its two ways leave.
+-- Row r of any file with rows that stand within it: what is left where it is of the day's series, and where it is not.
 module _ (file : List ℕ) (l : Layout) (d : Day) (r : ℕ) (placed : Placed file l) (there : r < l .positions) where
-  pub row-ends : (l .width * r ≤ 8_192) × (l .positionsStart + l .width * r + 32 ≤ length file)
-  row-ends =
-      let e : l .width * r ≡ 32 * r = ap (λ (w : ℕ). w * r) (placed .width-is) in
-      (omega (arith, placed .positions-most), omega (arith, placed .room))
-
   -- The row as it was read.
   module _ (row : PositionRow) (read : row ≡ positionRow file l r) where
     pub own-row : (f : ℕ) → row .series ≡ d .series → f ≡ flagsCrossed d (barrierOf (row .kind) (row .price)) (row .flags)

@@ -26,7 +26,7 @@ pub may-meet : (a : Account) (w h : ℕ) → w < a .positions → mayOf a w h �
 may-meet a w h l e =
     let p = may-pairable a w h e in
     let f = may-family a w h e in
-    record { held = rw (p .is-held, p .held-terms, may-fit a w h l e) refl; series = p .one-series; family-is = f .0; strike = f .1 }
+    record { held = rw (p .is-held, p .held-may, may-fit a w h l e) refl; series = p .one-series; family-is = f .0; strike = f .1 }
 
 -- The same as the definitions have it, of the up lane where u is true, else of the down lane.
 abbrev fromBy : Bool → Position → ℕ

@@ -42,11 +42,11 @@ none = 1_152_921_504_606_846_976
 abbrev pub last : ℕ
 last = 281_474_976_710_656
 
--- A held row that is European or opened before the annex: no other row is the held row of a pair.
+-- A held row that may be paired: no other row is the held row of a pair.
 abbrev pub pairsAsHeld : Position → Bool
 pairsAsHeld p = isHeld (p .side) && mayBePaired p
 
--- A written row that is European or opened before the annex: no other row is the written row of a pair.
+-- A written row that may be paired: no other row is the written row of a pair.
 abbrev pub pairsAsWritten : Position → Bool
 pairsAsWritten p = isWritten (p .side) && mayBePaired p
 

@@ -8,6 +8,7 @@ use crate::links::fill_links;
 use account::lookup::position_at;
 use account::lookup::series_of_position;
 use position::margin::unit_margin;
+use position::quantities::normalised;
 use rules::Layout;
 use rules::MOST_SERIES;
 use rules::Position;
@@ -26,9 +27,14 @@ fn unit_of_row(file: &[u8], l: Layout, p: Position) -> u64
     ensures { λ u. ⌜ u ≡ ifWritten (p .side) (unitMargin (accountOf (now (file .entry)) l .seriesAt (p .series)) p) ⌝ }
 {
     let side = p.side;
+    let flags = p.flags;
     match side {
         Side::Held => 0,
-        Side::Written => unit_margin(series_of_position(file, l, p), p),
+        Side::Written => unit_margin(
+            series_of_position(file, l, p),
+            normalised(p),
+            flags.knockedOut,
+        ),
     }
 }
 

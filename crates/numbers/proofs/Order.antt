@@ -1,20 +1,14 @@
 -- Two numbers are in order, equal, or neither; the newest of the numbers below n + 1.
 -- Assumes nothing.
 use Prim.Native.Nat.{ℕ, _+_, _≤_, _<_}
-use mathlib.Core.Bool.{Bool, true, false}
 use mathlib.Core.Logic.{_⊎_, inl, inr}
-use mathlib.Core.Path.{_≡_, refl}
+use mathlib.Core.Path.{_≡_}
 use native.Mathlib.Nat.{eq-or-lt-of-le}
 use native.Mathlib.Omega.{arith}
-use lib.Dec.{ltb}
-use borrow.Author.Tests.{ltb-false, ltb-true}
+use Rattle.rules.proofs.Tests.{lt-or-ge}
 
 pub split : (x y : ℕ) → (x < y) ⊎ (y ≤ x)
-split x y = go (ltb x y) refl
-  where
-    go : (t : Bool) → ltb x y ≡ t → (x < y) ⊎ (y ≤ x)
-    go true e = inl (ltb-true x y e)
-    go false e = inr (ltb-false x y e)
+split x y = lt-or-ge x y
 
 pub same : (x y : ℕ) → (x ≡ y) ⊎ (x ≡ y → ⊥)
 same x y = go (split x y) (split y x)

@@ -74,7 +74,7 @@ module _ (b : List ℕ) (l : Layout) (left table : List ℕ) (w : ℕ) (row : Ro
       nothing-kept (accountOf b l) left w
       (λ h lh o.
       let p = may-pairable (accountOf b l) w h (o .may-pair) in
-      role-other (limiterFits (accountOf b l) w) (accountOf b l .positionAt w) (λ q. e (role-is ∙ q)) (rw (p .is-written, p .written-terms)))
+      role-other (limiterFits (accountOf b l) w) (accountOf b l .positionAt w) (λ q. e (role-is ∙ q)) (rw (p .is-written, p .written-may)))
 
 pub both-some : (x y : ℕ) → (ltb 0 x && ltb 0 y) ≡ true → (1 ≤ x) × (1 ≤ y)
 both-some x y e = let t = both (ltb 0 x) (ltb 0 y) e in (ltb-true 0 x (t .0), ltb-true 0 y (t .1))

@@ -1,3 +1,4 @@
 pub mod Picks
 pub mod RowsFit
 pub mod Sign
+pub mod TermsUnit

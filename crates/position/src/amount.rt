@@ -1,5 +1,6 @@
 // The amount of one position of a file.
 use crate::margin::unit_margin;
+use crate::quantities::normalised;
 use account::lookup::position_at;
 use account::lookup::series_of_position;
 use account::reader::read_file;
@@ -33,9 +34,14 @@ pub fn amount_by_side(s: Series, p: Position) -> u64
     ensures { λ r. ⌜ (r ≡ amountBySide (p .side) s p) × (r ≤ 10_000_000_000_000_000) ⌝ }
 {
     let side = p.side;
+    let flags = p.flags;
     match side {
         Side::Held => premium_amount(s, p),
-        Side::Written => amount(unit_margin(s, p), s.m, p.q as u64),
+        Side::Written => amount(
+            unit_margin(s, normalised(p), flags.knockedOut),
+            s.m,
+            p.q as u64,
+        ),
     }
 }
 

@@ -3,7 +3,6 @@
 use crate::quantities::high_price;
 use crate::quantities::low_price;
 use crate::quantities::minimum_margin;
-use crate::quantities::normalised;
 use crate::quantities::payoff_at;
 use crate::quantities::rebate_of;
 use crate::quantities::worst_price;
@@ -12,14 +11,13 @@ use numbers::larger;
 use numbers::product;
 use numbers::smaller;
 use rules::Barrier;
-use rules::Position;
 use rules::Series;
 use rules::Terms;
 ghost use Prim.Native.Nat.{max};
 ghost use mathlib.Core.Bool.{cond};
 ghost use mathlib.Core.Path.{_≡_};
 ghost use Rattle.rules.proofs.Mirror.{bare, most, rule, worst};
-ghost use Rattle.rules.specs.OnePosition.{rebate, unitMargin};
+ghost use Rattle.rules.specs.OnePosition.{rebate, unitByFlag16};
 ghost use Rattle.rules.specs.Quantities.{minimum};
 ghost use Rattle.rules.specs.declared.Barrier.the-variants.{DownIn, DownOut, UpIn, UpOut};
 
@@ -118,13 +116,12 @@ fn unit_by(barrier: Barrier, s: Series, t: Terms) -> u64
     }
 }
 
-// The unit margin of a written row, in fine units: its rebate where it has flag 16, else by its barrier.
-pub fn unit_margin(s: Series, p: Position) -> u64
-    ensures { λ r. ⌜ r ≡ unitMargin s p ⌝ }
+// The unit margin of a written row, in fine units, by its terms after flag 1 is applied: its rebate where it has flag 16, else
+// by its barrier.
+pub fn unit_margin(s: Series, t: Terms, knockedOut: bool) -> u64
+    ensures { λ r. ⌜ r ≡ unitByFlag16 knockedOut s t ⌝ }
 {
-    let t = normalised(p);
-    let flags = p.flags;
-    if flags.knockedOut {
+    if knockedOut {
         return rebate_of(t);
     }
     let barrier = t.barrier;

@@ -1,8 +1,8 @@
--- What the operation answers to a day, for every file and every day: of a refused file its number and row; of an accepted one 16,
--- 17 or that the day is applied, exactly where the series and the prices are within their limits.
+-- What the operation answers to a day, for every file and every day: of a refused file its number and row; of an accepted
+-- one 16, 17 or that the day is applied, exactly where the series and the prices are within their limits.
 -- Assumes nothing.
 use Prim.Native.Nat.{ℕ, _≤_, _<_}
-use mathlib.Core.Bool.{Bool, true, false, _||_}
+use mathlib.Core.Bool.{Bool, true, false, true≢false}
 use mathlib.Core.List.{List}
 use mathlib.Core.Logic.{_⊎_, inl, inr}
 use mathlib.Core.Path.{_≡_, refl, sym, _∙_, ap, ap₂, subst}
@@ -11,12 +11,11 @@ use borrow.Author.Tests.{le-leb, le-ltb, leb-false, leb-true, lt-leb}
 use lib.Dec.{leb, ltb}
 use Rattle.rules.proofs.Answers.{accepted-read, refused-read}
 use Rattle.rules.proofs.Chain.{five-fail, in-range}
-use Rattle.rules.proofs.DayPromises.{applied-clean, day-applied, file-refused, prices-refused, series-refused}
-use Rattle.rules.specs.Day.{DayWithin, dayAnswer, dayWritten, fileAfter, wrongDay}
+use Rattle.rules.proofs.DayPromises.{applied-clean, day-applied, file-refused, not-applied, prices-refused, series-refused}
+use Rattle.rules.specs.Day.{DayWithin, dayAnswer, dayWritten, wrongDay}
 use Rattle.rules.specs.File.{Account, accountOf, layout}
 use Rattle.rules.specs.Refusals.{accepted, fileRead, meaning, meant, number, outside, refused}
 use Rattle.rules.specs.declared.Day.{Day}
-use Rattle.rules.specs.declared.DayAnswer.{DayAnswer}
 use Rattle.rules.specs.declared.DayAnswer.the-variants.{Applied, NotApplied}
 use Rattle.rules.specs.declared.FileRead.{FileRead}
 use Rattle.rules.specs.declared.FileRead.the-variants.{Accepted, Refused}
@@ -78,14 +77,13 @@ module _ (b : List ℕ) (d : Day) where
       go : (x : FileRead) → fileRead b ≡ x → (a : Account) × (meaning b ≡ accepted a) × DayWithin (a .series) d
       go (Accepted l) q = (accountOf b l, rw q refl, applied-clean b d l q z)
       go (Refused w i) q =
-          let m = file-refused b d b w i q refl .0 ∙ z in
-          let no-way : _≡_ {A = ℕ} 0 1 = cc in
-          absurd (omega arith)
+          absurd (not-applied w i (file-refused b d b w i q refl .0 ∙ z))
 
-  -- A refusal is the reading's; or 16, where the account has no such series; or 17, where it has. The latter two have row 0.
+  -- A refusal is the reading's; or 16, where the account has no such series; or 17, where it has and the prices are not within
+  -- their limits. The latter two have row 0.
   pub day-refusal-is : (w : Refusal) (i : ℕ) → dayAnswer b d ≡ NotApplied w i
       → (meaning b ≡ refused (number w) i)
-      ⊎ ((a : Account) × (meaning b ≡ accepted a) × (i ≡ 0) × (((a .series ≤ d .series) × (number w ≡ 16)) ⊎ ((d .series < a .series) × (number w ≡ 17))))
+      ⊎ ((a : Account) × (meaning b ≡ accepted a) × (i ≡ 0) × (((a .series ≤ d .series) × (number w ≡ 16)) ⊎ ((d .series < a .series) × (DayWithin (a .series) d → ⊥) × (number w ≡ 17))))
   unfolding meaning
   day-refusal-is w i z = go (fileRead b) refl
     where
@@ -97,24 +95,22 @@ module _ (b : List ℕ) (d : Day) where
           (ap number p, q)
 
       by-series : (l : Layout) → fileRead b ≡ Accepted l → (t : Bool) → leb (l .series) (d .series) ≡ t
-          → (i ≡ 0) × (((l .series ≤ d .series) × (number w ≡ 16)) ⊎ ((d .series < l .series) × (number w ≡ 17)))
+          → (i ≡ 0) × (((l .series ≤ d .series) × (number w ≡ 16)) ⊎ ((d .series < l .series) × (DayWithin (l .series) d → ⊥) × (number w ≡ 17)))
       by-series l e true q =
           let told = same-refusal SeriesAskedFor 0 (series-refused b d l e b q refl .0) in
           (sym (told .1), inl (leb-true (l .series) (d .series) q, sym (told .0)))
       by-series l e false q = by-prices (wrongDay d) refl
         where
-          by-prices : (u : Bool) → wrongDay d ≡ u → (i ≡ 0) × (((l .series ≤ d .series) × (number w ≡ 16)) ⊎ ((d .series < l .series) × (number w ≡ 17)))
+          by-prices : (u : Bool) → wrongDay d ≡ u → (i ≡ 0) × (((l .series ≤ d .series) × (number w ≡ 16)) ⊎ ((d .series < l .series) × (DayWithin (l .series) d → ⊥) × (number w ≡ 17)))
           by-prices true x =
               let told = same-refusal DayPrices 0 (prices-refused b d l e b q x refl .0) in
-              (sym (told .1), inr (leb-false (l .series) (d .series) q, sym (told .0)))
+              (sym (told .1), inr (leb-false (l .series) (d .series) q, λ v. true≢false (sym x ∙ prices-right (l .series) d v), sym (told .0)))
           by-prices false x =
-              let m : Applied ≡ NotApplied w i = day-applied b d l e (dayWritten b l d) q x refl .0 ∙ z in
-              let no-way : _≡_ {A = ℕ} 0 1 = cc in
-              absurd (omega arith)
+              absurd (not-applied w i (sym (day-applied b d l e (dayWritten b l d) q x refl .0 ∙ z)))
 
       go : (x : FileRead) → fileRead b ≡ x
           → (meant b x ≡ refused (number w) i)
-          ⊎ ((a : Account) × (meant b x ≡ accepted a) × (i ≡ 0) × (((a .series ≤ d .series) × (number w ≡ 16)) ⊎ ((d .series < a .series) × (number w ≡ 17))))
+          ⊎ ((a : Account) × (meant b x ≡ accepted a) × (i ≡ 0) × (((a .series ≤ d .series) × (number w ≡ 16)) ⊎ ((d .series < a .series) × (DayWithin (a .series) d → ⊥) × (number w ≡ 17))))
       go (Refused v k) q =
           let told = same-refusal v k (file-refused b d b v k q refl .0) in
           inl (ap₂ refused (told .0) (told .1))

@@ -1,7 +1,7 @@
 -- A file within its limits after a day within its own: the trailer and where the rows stand are the same, the rows are as the
 -- day leaves them, and the file is within its limits again. Written again, the day alters no byte.
 -- Assumes nothing.
-use Prim.Native.Nat.{ℕ, zero, suc, _+_, _*_, _-_, _≤_, _<_}
+use Prim.Native.Nat.{ℕ, zero, suc, _+_, _-_, _<_}
 use mathlib.Core.Bool.{Bool, true, false, cond}
 use mathlib.Core.List.{List, [], _∷_}
 use mathlib.Core.Path.{_≡_, refl, sym, _∙_, ap, ap₂, subst}
@@ -16,7 +16,7 @@ use Rattle.rules.proofs.Fields.{distance-same, layout-same, position-co
 use Rattle.rules.proofs.Stores.{Agree, sets-again, sets-in, stores-again}
 use Rattle.rules.proofs.Tests.{cond-case}
 use Rattle.rules.proofs.TrailerLimits.{placed}
-use Rattle.rules.specs.Day.{After, DayWithin, dayWritten, flagsAfter, flagsCrossed, flagsOfDay, flagsPlace, flagsWritten, positionAfter, pvPlace, seriesAfter}
+use Rattle.rules.specs.Day.{After, DayWithin, dayWritten, flagsAfter, flagsOfDay, flagsPlace, flagsWritten, positionAfter, pvPlace, seriesAfter}
 use Rattle.rules.specs.File.{accountOf, barrierOf, flagsOf, layout, limiterOf, positionCount, positionOf, positionRow, seriesCount, seriesOf, seriesRow, sideOf}
 use Rattle.rules.specs.Limits.{FileWithin, Placed, PositionWithin, SeriesWithin, TrailerWithin}
 use Rattle.rules.specs.Writing.{bytes4}
@@ -39,7 +39,7 @@ module _ (b : List ℕ) (d : Day) (w : FileWithin b) (v : DayWithin (seriesCount
   there = v .series-below
 
   size : length after ≡ length b
-  size = day-length b (layout b) d stands there
+  size = day-length b (layout b) d stands
 
   tail : Agree after b (length b - 12) (length b)
   tail = trailer-same b (layout b) d stands there

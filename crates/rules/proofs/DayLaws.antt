@@ -4,15 +4,16 @@ use Prim.Native.Nat.{ℕ, _+_, _*_, _-_, _≤_, _<_}
 use mathlib.Core.Bool.{Bool, true, false, cond}
 use mathlib.Core.List.{List, [], _∷_}
 use mathlib.Core.Logic.{_⊎_, inl, inr}
-use mathlib.Core.Path.{_≡_, refl, sym, _∙_, ap}
+use mathlib.Core.Path.{_≡_, refl, sym, _∙_, ap, subst}
 use native.Mathlib.Numerals.{add-one}
 use native.Mathlib.Omega.{arith}
 use borrow.Author.Tests.{ne-eqb}
 use lib.Dec.{eqb}
 use lib.ListN.{getD, length, set}
-use lib.Seq.{sets, length-sets}
+use lib.Seq.{length-sets}
 use Rattle.rules.proofs.Fields.{position-row-flags, series-row-pv, u32-same, u32-stored, withFlags, withPv}
-use Rattle.rules.proofs.Stores.{Agree, Off, column-beside, column-in, column-off, length-stores, lt-or-ge, place-or-none, row-before, sets-off}
+use Rattle.rules.proofs.Stores.{Agree, Off, cell-apart, column-beside, column-in, column-off, in-row, length-stores, place-or-none, row-before, sets-off}
+use Rattle.rules.proofs.Tests.{lt-or-ge}
 use Rattle.rules.specs.Day.{Untouched, dayWritten, flagsAfter, flagsCrossed, flagsPlace, flagsWritten, pvPlace}
 use Rattle.rules.specs.File.{barrierOf, positionRow, seriesRow, seriesWidth, u32At}
 use Rattle.rules.specs.Limits.{Placed}
@@ -20,7 +21,6 @@ use Rattle.rules.specs.Writing.{bytes4, stores}
 use Rattle.rules.specs.declared.Day.{Day}
 use Rattle.rules.specs.declared.Layout.{Layout}
 use Rattle.rules.specs.declared.PositionRow.{PositionRow}
-use Rattle.rules.specs.declared.SeriesRow.{SeriesRow}
 
 -- A row's flags after the day, by whether it is of the day's series.
 module _ (d : Day) (r : PositionRow) where
@@ -72,27 +72,32 @@ module _ (b : List ℕ) (l : Layout) (d : Day) (placed : Placed b l) where
   unfolding stores
   flags-next n = rw (add-one n) refl
 
+  -- A position row ends before the trailer.
+  pub rows-end : (r : ℕ) → r < l .positions → l .positionsStart + l .width * r + l .width + 12 ≤ length b
+  rows-end r h =
+      let e : l .width * l .positions ≡ 32 * l .positions = ap (λ (w : ℕ). w * l .positions) (placed .width-is) in
+      omega (arith, placed .room, row-before (l .width) r (l .positions) h)
+
+  pub day-length : length (dayWritten b l d) ≡ length b
+  unfolding dayWritten
+  day-length =
+      length-sets (flagsWritten b l d (l .positions)) (pvPlace l (d .series)) (bytes4 (d .close))
+      ∙ flags-length (l .positions)
+
+  day-off : (j : ℕ) → ((r : ℕ) → r < l .positions → j ≡ flagsPlace l r → ⊥) → Off (pvPlace l (d .series)) (bytes4 (d .close)) j → getD (dayWritten b l d) j 0 ≡ getD b j 0
+  unfolding dayWritten
+  day-off j none off =
+      sets-off (bytes4 (d .close)) (flagsWritten b l d (l .positions)) (pvPlace l (d .series)) j off
+      ∙ flags-off (l .positions) j none
+
+  -- A byte of the series rows is no row's flags.
+  no-flags : (j : ℕ) → j < l .positionsStart → (r : ℕ) → r < l .positions → j ≡ flagsPlace l r → ⊥
+  no-flags j h r m e = omega arith
+
   module _ (there : d .series < l .series) where
     -- The PV ends before the position rows begin.
     before-rows : pvPlace l (d .series) + 4 ≤ l .positionsStart
     before-rows = omega (arith, placed .positions-start-is)
-
-    rows-end : (r : ℕ) → r < l .positions → l .positionsStart + l .width * r + l .width + 12 ≤ length b
-    rows-end r h =
-        let e : l .width * l .positions ≡ 32 * l .positions = ap (λ (w : ℕ). w * l .positions) (placed .width-is) in
-        omega (arith, placed .room, row-before (l .width) r (l .positions) h)
-
-    pub day-length : length (dayWritten b l d) ≡ length b
-    unfolding dayWritten
-    day-length =
-        length-sets (flagsWritten b l d (l .positions)) (pvPlace l (d .series)) (bytes4 (d .close))
-        ∙ flags-length (l .positions)
-
-    day-off : (j : ℕ) → ((r : ℕ) → r < l .positions → j ≡ flagsPlace l r → ⊥) → Off (pvPlace l (d .series)) (bytes4 (d .close)) j → getD (dayWritten b l d) j 0 ≡ getD b j 0
-    unfolding dayWritten
-    day-off j none off =
-        sets-off (bytes4 (d .close)) (flagsWritten b l d (l .positions)) (pvPlace l (d .series)) j off
-        ∙ flags-off (l .positions) j none
 
     -- The PV leaves the position rows as they are.
     day-rows : (j : ℕ) → l .positionsStart ≤ j → getD (dayWritten b l d) j 0 ≡ getD (flagsWritten b l d (l .positions)) j 0
@@ -135,11 +140,22 @@ module _ (b : List ℕ) (l : Layout) (d : Day) (placed : Placed b l) where
         go (inl (r, h, e)) = rw e (other r h e)
         go (inr none) = day-off j none pv-off
 
-    -- The PV is four bytes: the one before it, which is the cover sheet's or another series row's, and the one after it, which is
-    -- fa's, are not written.
-    pub beside-pv : ((j : ℕ) → j + 1 ≡ pvPlace l (d .series) → Untouched b l d j) × Untouched b l d (pvPlace l (d .series) + 4)
-    beside-pv =
+    -- What is not written: the cover sheet, the bytes before and after the PV, the flags of another series' row, and every other
+    -- byte of a position row.
+    pub untouched-cover : (j : ℕ) → j < l .seriesStart → Untouched b l d j
+    untouched-cover j h = (λ r m q e. omega (arith, before-rows), λ k m e. omega arith)
+
+    pub untouched-beside-pv : ((j : ℕ) → j + 1 ≡ pvPlace l (d .series) → Untouched b l d j) × Untouched b l d (pvPlace l (d .series) + 4)
+    untouched-beside-pv =
         (λ j e. (λ r h q at. omega (arith, before-rows), λ k h at. omega arith), (λ r h q at. omega (arith, before-rows), λ k h at. omega arith))
+
+    pub untouched-flags : (r : ℕ) → r < l .positions → (positionRow b l r .series ≡ d .series → ⊥) → Untouched b l d (flagsPlace l r)
+    untouched-flags r h other =
+        (λ m k q e. other (subst (λ (x : ℕ). positionRow b l x .series ≡ d .series) (sym (cell-apart (l .width) (l .positionsStart) r m 4 4 inside inside e .0)) q), λ k m e. omega (arith, before-rows))
+
+    pub untouched-row : (r j : ℕ) → l .positionsStart + l .width * r ≤ j → j < l .positionsStart + l .width * r + l .width → (j ≡ flagsPlace l r → ⊥) → Untouched b l d j
+    untouched-row r j least less other =
+        (λ m k q e. other (in-row (l .width) (l .positionsStart) 4 inside r m j least less e), λ k m e. omega (arith, before-rows))
 
     -- What follows the rows.
     pub trailer-same : Agree (dayWritten b l d) b (length b - 12) (length b)
@@ -151,16 +167,11 @@ module _ (b : List ℕ) (l : Layout) (d : Day) (placed : Placed b l) where
     unfolding positionRow
     row-after r h =
         let at : ℕ = l .positionsStart + l .width * r in
-        let c : List ℕ = flagsWritten b l d (l .positions) in
         let beside = column-beside (l .width) (l .positionsStart) 4 inside newFlags (l .positions) b r in
         position-row-flags (dayWritten b l d) b at
         (λ j p q. day-rows j (omega arith) ∙ beside j p (omega (arith, placed .width-is)) (λ e. omega arith))
         (λ j p q. day-rows j (omega arith) ∙ beside j (omega arith) (omega (arith, placed .width-is)) (λ e. omega arith))
         ∙ ap (λ (f : ℕ). withFlags f (positionRow b l r)) (day-flags r h)
-
-    -- A byte of the series rows is no row's flags.
-    no-flags : (j : ℕ) → j < l .positionsStart → (r : ℕ) → r < l .positions → j ≡ flagsPlace l r → ⊥
-    no-flags j h r m e = omega arith
 
     pub series-day : d .close < 4_294_967_296 → seriesRow (dayWritten b l d) l (d .series) ≡ withPv (d .close) (seriesRow b l (d .series))
     unfolding seriesRow

@@ -1,15 +1,15 @@
 -- Document 02 [5] of every file and every day: "Only flags of that series and its PV are written", "A file accepted before is
 -- accepted after", "The same day applied again alters no byte". And what the operation answers, check by check, for code.
 -- Assumes nothing.
-use Prim.Native.Nat.{ℕ, _≤_, _<_}
-use mathlib.Core.Bool.{Bool, true, false, _||_}
+use Prim.Native.Nat.{ℕ}
+use mathlib.Core.Bool.{true, false}
 use mathlib.Core.List.{List}
 use mathlib.Core.Path.{_≡_, refl, sym, _∙_, ap, subst}
 use native.Mathlib.Omega.{arith}
 use borrow.Author.Tests.{leb-false}
 use lib.Dec.{leb, ltb}
 use lib.ListN.{length}
-use Rattle.rules.proofs.Chain.{all-clean, all-pass, inside, none-of-five, passes, stops}
+use Rattle.rules.proofs.Chain.{all-pass, inside, none-of-five, passes, stops}
 use Rattle.rules.proofs.DayFile.{account-after, day-within, same-layout, written-again}
 use Rattle.rules.proofs.DayLaws.{day-length}
 use Rattle.rules.proofs.DayLaws as DayLaws
@@ -20,7 +20,6 @@ use Rattle.rules.specs.File.{Account, accountOf, layout, seriesCount, u8
 use Rattle.rules.specs.Limits.{FileWithin, Placed}
 use Rattle.rules.specs.Refusals.{accepted, fileRead, meaning, outside, refuse}
 use Rattle.rules.specs.declared.Day.{Day}
-use Rattle.rules.specs.declared.DayAnswer.{DayAnswer}
 use Rattle.rules.specs.declared.DayAnswer.the-variants.{Applied, NotApplied}
 use Rattle.rules.specs.declared.Fault.{Fault}
 use Rattle.rules.specs.declared.Fault.the-variants.{Clean, Found}
@@ -30,7 +29,7 @@ use Rattle.rules.specs.declared.Layout.{Layout}
 use Rattle.rules.specs.declared.Refusal.{Refusal}
 use Rattle.rules.specs.declared.Refusal.the-variants.{DayPrices, SeriesAskedFor}
 
-not-applied : (w : Refusal) (i : ℕ) → NotApplied w i ≡ Applied → ⊥
+pub not-applied : (w : Refusal) (i : ℕ) → NotApplied w i ≡ Applied → ⊥
 not-applied w i e = let z : _≡_ {A = ℕ} 0 1 = cc in omega arith
 
 -- A day without fault is within its limits.
@@ -128,7 +127,7 @@ module _ (b : List ℕ) (d : Day) (l : Layout) (e : fileRead b ≡ Accepted l) w
 
   same-length : (f : Fault) → dayFault (l .series) d ≡ f → length (fileAfter b d) ≡ length b
   same-length Clean q =
-      ap length (bytes-are Clean q) ∙ day-length b l d stands (clean-day (l .series) d q .series-below)
+      ap length (bytes-are Clean q) ∙ day-length b l d stands
   same-length (Found w) q = ap length (bytes-are (Found w) q)
 
   others-stay : (f : Fault) → dayFault (l .series) d ≡ f → (j : ℕ) → Untouched b l d j → u8At (fileAfter b d) j ≡ u8At b j

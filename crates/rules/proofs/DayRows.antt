@@ -1,12 +1,12 @@
 -- One row after a day: its flags bit by bit, that it keeps its limits beside the new PV, and that the same day again finds its
 -- flags as it would set them.
 -- Assumes nothing.
-use Prim.Native.Nat.{ℕ, _+_, _*_, _-_, _/_, _%_, _≤_, _<_}
+use Prim.Native.Nat.{ℕ, _/_, _%_, _≤_, _<_}
 use mathlib.Core.Bool.{Bool, true, false, cond, _||_, or-false, or-true, true≢false}
 use mathlib.Core.Logic.{_⊎_, inl, inr}
 use mathlib.Core.Path.{_≡_, refl, sym, _∙_, ap}
 use native.Mathlib.Omega.{arith}
-use borrow.Author.Tests.{eq-eqb, eqb-true, leb-false}
+use borrow.Author.Tests.{eq-eqb, leb-false}
 use lib.Dec.{eqb, leb}
 use Rattle.rules.proofs.Fields.{withFlags, withPv}
 use Rattle.rules.proofs.RowFacts.{by-kind}
@@ -31,7 +31,7 @@ module _ (f : ℕ) where
   above-1 : (n : ℕ) → withFlag1 f / 2 / n ≡ f / 2 / n
   above-1 n = ap (λ (x : ℕ). x / n) half-1
 
-  pub bits-1 : (withFlag1 f % 2 ≡ 1) × (withFlag1 f / 2 % 2 ≡ f / 2 % 2) × (withFlag1 f / 4 % 2 ≡ f / 4 % 2) × (withFlag1 f / 8 % 2 ≡ f / 8 % 2) × (withFlag1 f / 16 % 2 ≡ f / 16 % 2)
+  bits-1 : (withFlag1 f % 2 ≡ 1) × (withFlag1 f / 2 % 2 ≡ f / 2 % 2) × (withFlag1 f / 4 % 2 ≡ f / 4 % 2) × (withFlag1 f / 8 % 2 ≡ f / 8 % 2) × (withFlag1 f / 16 % 2 ≡ f / 16 % 2)
   bits-1 =
       let e4 : withFlag1 f / 4 ≡ withFlag1 f / 2 / 2 = omega arith in
       let g4 : f / 4 ≡ f / 2 / 2 = omega arith in
@@ -41,7 +41,7 @@ module _ (f : ℕ) where
       let g16 : f / 16 ≡ f / 2 / 8 = omega arith in
       (omega arith, omega (arith, half-1), omega (arith, above-1 2), omega (arith, above-1 4), omega (arith, above-1 8))
 
-  pub bits-16 : (withFlag16 f % 2 ≡ f % 2) × (withFlag16 f / 2 % 2 ≡ f / 2 % 2) × (withFlag16 f / 4 % 2 ≡ f / 4 % 2) × (withFlag16 f / 8 % 2 ≡ f / 8 % 2) × (withFlag16 f / 16 % 2 ≡ 1)
+  bits-16 : (withFlag16 f % 2 ≡ f % 2) × (withFlag16 f / 2 % 2 ≡ f / 2 % 2) × (withFlag16 f / 4 % 2 ≡ f / 4 % 2) × (withFlag16 f / 8 % 2 ≡ f / 8 % 2) × (withFlag16 f / 16 % 2 ≡ 1)
   bits-16 = (omega arith, omega arith, omega arith, omega arith, omega arith)
 
 -- Flags g with flag 1 where `inward` holds and flag 16 where `outward` does, beside those that are there.
@@ -180,7 +180,7 @@ module _ (s : ℕ) (k : SeriesRow) (r : PositionRow) (h : PositionWithin s k r) 
         below = λ z y u. absurd (omega (arith, bits .4));
       }
 
-  -- The flags as they were: the close, which the barrier has not been touched from, is on the same side of it as PV.
+  -- The flags as they were: the day did not touch the barrier, so that the close is on the same side of it as PV was.
   kept-as-is : ((r .kind ≡ 1) ⊎ (r .kind ≡ 3) → d .close < r .price) → ((r .kind ≡ 2) ⊎ (r .kind ≡ 4) → r .price < d .close) → Kept (d .close) r (r .flags)
   kept-as-is up down =
       record {

@@ -12,7 +12,7 @@ use lib.ListN.{length}
 use Rattle.rules.proofs.AccountCover as AccountCover
 use Rattle.rules.proofs.Cover.{covers}
 use Rattle.rules.proofs.Least.{least-for}
-use Rattle.rules.proofs.MayPair.{may-pairable}
+use Rattle.rules.proofs.MayPair.{may-pairable, no-flag-16}
 use Rattle.rules.proofs.PairCover.{pair-covers}
 use Rattle.rules.proofs.PairPromises as PairPromises
 use Rattle.rules.proofs.Reading.{accepted-within}
@@ -21,7 +21,7 @@ use Rattle.rules.specs.File.{Account, accountOf, layout, positionOf, pos
 use Rattle.rules.specs.Limits.{FileWithin}
 use Rattle.rules.specs.Lines.{lines, linesFor, linesGiven, marginAnswer, marginForList, total}
 use Rattle.rules.specs.Paths.{payment}
-use Rattle.rules.specs.Promises.{ContractsDemand, Cover, CoverDemand, Least, LeastDemand, LowFactors, NeverPairedDemand, UnmadeDemand}
+use Rattle.rules.specs.Promises.{ContractsDemand, Cover, CoverDemand, Least, LeastDemand, LowFactors, UnmadeDemand}
 use Rattle.rules.specs.Refusals.{accepted, fileRead, meaning, meant}
 use Rattle.rules.specs.declared.FileRead.{FileRead}
 use Rattle.rules.specs.declared.FileRead.the-variants.{Accepted, Refused}
@@ -61,7 +61,7 @@ module _ (b : List ℕ) (h : FileWithin b) (factors : LowFactors (accountOf b (l
       let below = h .position-rows w there .series-below in
       let pair = may-pairable a w g may in
       subst (λ (j : ℕ). payment (seriesOfRow a w) (a .positionAt w) (path i) ≤ u + payment (a .seriesAt j) (a .positionAt g) (path j)) (pair .one-series)
-      (pair-covers (seriesOfRow a w) (a .positionAt g) (a .positionAt w) u (pair .held-stands) (pair .written-stands) e (path i) (each i below)))
+      (pair-covers (seriesOfRow a w) (a .positionAt g) (a .positionAt w) u (no-flag-16 (a .positionAt g) (pair .held-may)) (no-flag-16 (a .positionAt w) (pair .written-may)) e (path i) (each i below)))
 
 -- "The cover, where every fb is at most 1,000,000: for every choice of one path for each series, total × 1,000,000 plus
 -- what the pairs bring in is at least what the written rows pay out. All rows of a series follow its path. A written row
@@ -82,10 +82,6 @@ contracts b a e = PairPromises.contracts a
 -- spread's."
 pub unmade : (b : List ℕ) → UnmadeDemand b
 unmade b a e = PairPromises.unmade a
-
--- A row with flag 16 "is never paired" (document 02 [5]).
-pub never-paired : (b : List ℕ) → NeverPairedDemand b
-never-paired b a e = PairPromises.never-paired a
 
 -- "The least amount, where every fb is at most 1,000,000: an amount per unit, in whole fine units, covers a position if
 -- it is at least the position's payment on every path of its series. The unit margin of each written row covers it.

@@ -58,10 +58,10 @@ module _ (c b : List ℕ) where
     u8-same : (i : ℕ) → from ≤ i → i < e → u8At c i ≡ u8At b i
     u8-same i l h = a i l h
 
-    pub u16-same : (i : ℕ) → from ≤ i → i + 2 ≤ e → u16At c i ≡ u16At b i
+    u16-same : (i : ℕ) → from ≤ i → i + 2 ≤ e → u16At c i ≡ u16At b i
     u16-same i l h = rw (a i l (omega arith), a (i + 1) (omega arith) (omega arith))
 
-    pub u24-same : (i : ℕ) → from ≤ i → i + 3 ≤ e → u24At c i ≡ u24At b i
+    u24-same : (i : ℕ) → from ≤ i → i + 3 ≤ e → u24At c i ≡ u24At b i
     u24-same i l h = rw (a i l (omega arith), a (i + 1) (omega arith) (omega arith), a (i + 2) (omega arith) (omega arith))
 
     pub u32-same : (i : ℕ) → from ≤ i → i + 4 ≤ e → u32At c i ≡ u32At b i

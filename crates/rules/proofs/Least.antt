@@ -1,5 +1,5 @@
 -- The unit margin is the least amount: every amount that covers a position and is at least MM is, with one fine unit
--- added, at least the unit margin.
+-- added, at least the unit margin. Of a row with flag 16 every amount that covers it is.
 -- Assumes nothing.
 use Prim.Native.Nat.{ℕ, _+_, _*_, _-_, _≤_, _<_, max}
 use mathlib.Core.Bool.{Bool, true, false, cond}
@@ -17,7 +17,7 @@ use Rattle.rules.proofs.RowFacts.{Beside}
 use Rattle.rules.proofs.Tests.{ltb-case}
 use Rattle.rules.proofs.Touch.{In}
 use Rattle.rules.specs.OnePosition.{normal, rebate, unitMargin}
-use Rattle.rules.specs.Paths.{IsPath, atOrAbove, atOrBelow, inPayment, outPayment, paymentByBarrier, payment, payoffAt}
+use Rattle.rules.specs.Paths.{IsPath, atOrAbove, atOrBelow, inPayment, outPayment, paymentByBarrier, payoffAt}
 use Rattle.rules.specs.Promises.{Covers, LeastFor, LeastWithFlag16}
 use Rattle.rules.specs.Quantities.{fine, high, low, minimum}
 use Rattle.rules.specs.declared.Barrier.{Barrier}
@@ -140,11 +140,18 @@ minimum-rule k (DownIn b) s p = max-over (fine b) (low s) _ _ _
 minimum-rule k (UpOut b) s p = max-over (high s) (fine b) _ _ _
 minimum-rule k (DownOut b) s p = max-over (fine b) (low s) _ _ _
 
--- The unit margin of a row without flag 16 is at least MM, so it is itself one of the amounts that `least` speaks of.
+-- The unit margin of a row without flag 16 is at least MM, so it is itself one of the amounts that
+-- `least-without` speaks of.
 pub above-minimum : (s : Series) (p : Position) → p .flags .knockedOut ≡ false → minimum s ≤ unitMargin s p
 above-minimum s p stands =
     let c = minimum-rule (s .option) (normal p .barrier) s (normal p) in
     omega (arith, unit-without s p stands, mirror (s .option) (normal p .barrier) s (normal p))
+
+-- A row with flag 16 that keeps its REB pays it on the path that is H alone, whatever fb is.
+pub least-with : (s : Series) (p : Position) → low s ≤ high s → (p .flags .knockedOut ≡ true → normal p .reb ≡ p .terms .reb) → LeastWithFlag16 s p
+least-with s p room keeps out =
+    let path : List ℕ = high s ∷ [] in
+    (unit-with s p out ∙ ap fine (keeps out), λ a cover. omega (arith, unit-with s p out, payment-with s p out path, cover path (omega arith)))
 
 module _ (s : Series) (p : Position) (rise : 1_000_000 ≤ s .fa) (fall : s .fb ≤ 1_000_000) where
   least-without :
@@ -157,14 +164,6 @@ module _ (s : Series) (p : Position) (rise : 1_000_000 ≤ s .fa) (fall : s .fb 
       (λ l i. omega (arith, cover l i, payment-without s p stands l)) m in
       omega (arith, unit-without s p stands, mirror (s .option) (normal p .barrier) s (normal p))
 
-  -- A row with flag 16 pays REB on the path that is today's price alone.
-  least-with : p .flags .knockedOut ≡ true → (amount : ℕ) → Covers s p amount → unitMargin s p ≤ amount
-  least-with out a cover =
-      let up : fine (s .pv) ≤ high s = mul-le-mul-left (s .pv) rise in
-      let down : low s ≤ fine (s .pv) = mul-le-mul-left (s .pv) fall in
-      let path : List ℕ = fine (s .pv) ∷ [] in
-      omega (arith, unit-with s p out, payment-with s p out path, cover path (omega arith))
-
   -- Of a row whose barrier, unless it has flag 16, stands on its side of PV; that has REB 0 where it has no barrier; and
   -- that keeps its REB where it has flag 16.
   pub least-for :
@@ -173,8 +172,11 @@ module _ (s : Series) (p : Position) (rise : 1_000_000 ≤ s .fa) (fall : s .fb 
       → (p .flags .knockedOut ≡ true → normal p .reb ≡ p .terms .reb)
       → LeastFor s p
   least-for side none keeps =
-      (covers s p rise fall, by-flag (p .flags .knockedOut) refl, λ e. (unit-with s p e ∙ ap fine (keeps e), least-with e))
+      (covers s p rise fall, by-flag (p .flags .knockedOut) refl, with-flag)
     where
+      with-flag : LeastWithFlag16 s p
+      with-flag = least-with s p (mul-le-mul-left (s .pv) (omega arith)) keeps
+
       by-flag : (t : Bool) → p .flags .knockedOut ≡ t → (amount : ℕ) → Covers s p amount → minimum s ≤ amount → unitMargin s p ≤ amount + 1
-      by-flag true e a cover m = omega (arith, least-with e a cover)
+      by-flag true e a cover m = omega (arith, with-flag e .1 a cover)
       by-flag false e a cover m = least-without e (side e) none a cover m

@@ -41,8 +41,9 @@ pub mod AccountCover
 pub mod PairingExample
 -- Bounds for the code.
 pub mod Bounds
--- Demand 3.
+-- Demand 3, and rows with flag 16.
 pub mod Demand3
+pub mod KnockedOut
 -- What the operations answer.
 pub mod FileNumbers
 pub mod Answers

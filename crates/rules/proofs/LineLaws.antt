@@ -54,7 +54,7 @@ module _ (a : Account) (f : Line → ℕ) where
   sum-lines l left n =
       sumOver-append f (pairLines a l) _ ∙ ap₂ (λ x y. x + y) (sum-pairs l) (sum-left left n)
 
-same-either : (x : Bool) (n : ℕ) → cond x n n ≡ n
+pub same-either : (x : Bool) (n : ℕ) → cond x n n ≡ n
 same-either true n = refl
 same-either false n = refl
 

@@ -25,10 +25,8 @@ pub record Pairable (s : Series) (w h : Position) : Type 0 where
   pub is-written : w .side ≡ Written
   pub is-held : h .side ≡ Held
   pub one-series : w .series ≡ h .series
-  pub written-terms : mayBePaired w ≡ true
-  pub held-terms : mayBePaired h ≡ true
-  pub written-stands : w .flags .knockedOut ≡ false
-  pub held-stands : h .flags .knockedOut ≡ false
+  pub written-may : mayBePaired w ≡ true
+  pub held-may : mayBePaired h ≡ true
   pub spread : ℕ
   pub spread-is : unitSpread s h w ≡ Margin spread
   pub spread-less : spread < unitMargin s w
@@ -55,8 +53,8 @@ five p q r s t e =
     (first .0, first .1, third .1, fourth .1, last .1)
 
 -- A row that may be paired has no flag 16.
-pub stands : (p : Position) → mayBePaired p ≡ true → p .flags .knockedOut ≡ false
-stands p e =
+pub no-flag-16 : (p : Position) → mayBePaired p ≡ true → p .flags .knockedOut ≡ false
+no-flag-16 p e =
     not-true (p .flags .knockedOut) (both (p .flags .european || p .flags .beforeAnnex) (not (p .flags .knockedOut)) e .1)
 
 pub pairable-if : (s : Series) (w h : Position) → mayPair s w h ≡ true → Pairable s w h
@@ -70,10 +68,8 @@ pairable-if s w h e =
       is-written = side-written (w .side) (tests .0);
       is-held = side-held (h .side) (tests .1);
       one-series = eqb-true (w .series) (h .series) (tests .2);
-      written-terms = terms .0;
-      held-terms = terms .1;
-      written-stands = stands w (terms .0);
-      held-stands = stands h (terms .1);
+      written-may = terms .0;
+      held-may = terms .1;
       spread = less .0;
       spread-is = less .1;
       spread-less = less .2;

@@ -8,10 +8,11 @@ use mathlib.Core.Logic.{_⊎_, inl, inr}
 use mathlib.Core.Path.{_≡_, refl, _∙_, ap}
 use native.Mathlib.Nat.{eq-or-lt-of-le, le-of-suc-le-suc, not-suc-le-zero, mul-le-mul-left, mul-suc}
 use native.Mathlib.Omega.{arith}
-use borrow.Author.Tests.{eqb-false, eqb-true, ltb-false, ltb-true}
-use lib.Dec.{eqb, ltb}
+use borrow.Author.Tests.{eqb-false, eqb-true}
+use lib.Dec.{eqb}
 use lib.ListN.{getD, length, set, length-set}
 use lib.Seq.{sets, length-sets, getD-set-other, getD-set-same, set-getD}
+use Rattle.rules.proofs.Tests.{lt-or-ge}
 use Rattle.rules.specs.Writing.{stores}
 
 -- From byte i to below byte e two files have the same bytes.
@@ -21,13 +22,6 @@ Agree c b i e = (j : ℕ) → i ≤ j → j < e → getD c j 0 ≡ getD b j 0
 -- Byte j is none of the bytes from i on that vs fills.
 abbrev pub Off : ℕ → List ℕ → ℕ → Type 0
 Off i vs j = (j < i) ⊎ (i + length vs ≤ j)
-
-pub lt-or-ge : (x y : ℕ) → (x < y) ⊎ (y ≤ x)
-lt-or-ge x y = go (ltb x y) refl
-  where
-    go : (t : Bool) → ltb x y ≡ t → (x < y) ⊎ (y ≤ x)
-    go true e = inl (ltb-true x y e)
-    go false e = inr (ltb-false x y e)
 
 -- A byte that is not the one stored.
 off-one : (i v j : ℕ) → (j ≡ i → ⊥) → Off i (v ∷ []) j
@@ -79,14 +73,14 @@ module _ (place : ℕ → ℕ) (vs : ℕ → List ℕ) where
   length-stores zero b = refl
   length-stores (suc n) b = length-sets (stores place vs n b) (place n) (vs n) ∙ length-stores n b
 
-  pub stores-off : (n : ℕ) (b : List ℕ) (j : ℕ) → ((i : ℕ) → i < n → Off (place i) (vs i) j) → getD (stores place vs n b) j 0 ≡ getD b j 0
+  stores-off : (n : ℕ) (b : List ℕ) (j : ℕ) → ((i : ℕ) → i < n → Off (place i) (vs i) j) → getD (stores place vs n b) j 0 ≡ getD b j 0
   unfolding stores
   stores-off zero b j o = refl
   stores-off (suc n) b j o =
       sets-off (vs n) (stores place vs n b) (place n) j (o n (omega arith)) ∙ stores-off n b j (λ i h. o i (omega arith))
 
   -- What store i wrote, if no later one writes there.
-  pub stores-in : (n : ℕ) (b : List ℕ) (i k : ℕ) → i < n → k < length (vs i) → place i + length (vs i) ≤ length b
+  stores-in : (n : ℕ) (b : List ℕ) (i k : ℕ) → i < n → k < length (vs i) → place i + length (vs i) ≤ length b
       → ((m : ℕ) → i < m → m < n → Off (place m) (vs m) (place i + k)) → getD (stores place vs n b) (place i + k) 0 ≡ getD (vs i) k 0
   unfolding stores
   stores-in zero b i k h l fits o = absurd (not-suc-le-zero h)
@@ -129,7 +123,7 @@ pub row-before : (w i m : ℕ) → i < m → w * i + w ≤ w * m
 row-before w i m h = rw (← mul-suc w i) (mul-le-mul-left w h)
 
 -- Byte x of row r and byte y of row m are one byte only if they are one row's one byte.
-cell-apart : (w base r m x y : ℕ) → x < w → y < w → base + w * r + x ≡ base + w * m + y → (r ≡ m) × (x ≡ y)
+pub cell-apart : (w base r m x y : ℕ) → x < w → y < w → base + w * r + x ≡ base + w * m + y → (r ≡ m) × (x ≡ y)
 cell-apart w base r m x y h k e = go (lt-or-ge r m) (lt-or-ge m r)
   where
     go : (r < m) ⊎ (m ≤ r) → (m < r) ⊎ (r ≤ m) → (r ≡ m) × (x ≡ y)
@@ -143,7 +137,7 @@ cell-apart w base r m x y h k e = go (lt-or-ge r m) (lt-or-ge m r)
 -- One byte, byte y, of each of the first n rows is stored.
 module _ (w base y : ℕ) (inside : y < w) where
   -- A byte of row r that is byte y of some row m is byte y of row r.
-  in-row : (r m j : ℕ) → base + w * r ≤ j → j < base + w * r + w → j ≡ base + w * m + y → j ≡ base + w * r + y
+  pub in-row : (r m j : ℕ) → base + w * r ≤ j → j < base + w * r + w → j ≡ base + w * m + y → j ≡ base + w * r + y
   in-row r m j least less e =
       let x : ℕ = j - (base + w * r) in
       let same : base + w * r + x ≡ base + w * m + y = omega arith in

@@ -65,3 +65,11 @@ one-fails false t h = refl
 pub both-hold : (s t : Bool) → s ≡ true → t ≡ true → (s && t) ≡ true
 both-hold true t h k = k
 both-hold false t h k = absurd (true≢false (sym h))
+
+-- One of two numbers is below the other, or not.
+pub lt-or-ge : (x y : ℕ) → (x < y) ⊎ (y ≤ x)
+lt-or-ge x y = go (ltb x y) refl
+  where
+    go : (t : Bool) → ltb x y ≡ t → (x < y) ⊎ (y ≤ x)
+    go true e = inl (ltb-true x y e)
+    go false e = inr (ltb-false x y e)

@@ -1,6 +1,6 @@
 -- Document 02 [5], What the day crossed: the file after a series' high, low and close.
 use Prim.Native.Nat.{ℕ, _+_, _*_, _-_, _/_, _%_, _≤_, _<_}
-use mathlib.Core.Bool.{Bool, true, false, cond, _||_}
+use mathlib.Core.Bool.{Bool, false, cond, _||_}
 use mathlib.Core.List.{List, [], _∷_}
 use mathlib.Core.Path.{_≡_}
 use lib.Dec.{eqb, leb, ltb}
@@ -81,8 +81,8 @@ wrongDay d =
     || outside 1 10_000_000 (d .low)
     || outside 1 10_000_000 (d .close)
 
--- A day within its limits, as plain ranges, for an account of s series: neither 16 nor 17. The close is between low and high,
--- so that the ends of the range are theirs.
+-- A day within its limits, as plain ranges, for an account of s series: neither 16 nor 17. The close is from low to high, so that
+-- 1 for the low and 10,000,000 for the high are limits of all three.
 pub record DayWithin (s : ℕ) (d : Day) : Type 0 where
   pub series-below : d .series < s
   pub low-least : 1 ≤ d .low

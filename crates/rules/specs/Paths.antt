@@ -1,6 +1,7 @@
 -- Document 01, Paths: paths, touch and payment. The names, from the inside out: `payoffAt` is what the option is worth at
 -- the last price, without barriers; `inPayment`, `outPayment` and `paymentByBarrier` are what a normalised position pays on
--- a path, by its barrier; `payment` is document 01's payment, of any position. What rows pay out and pairs bring in is in `Promises`.
+-- a path, by its barrier; `paymentByFlag16` puts flag 16 before that; `payment` is the payment of any position. What rows pay
+-- out and pairs bring in is in `Promises`.
 use Prim.Native.Nat.{ℕ, _*_, _-_, _≤_, min, max}
 use mathlib.Core.Bool.{Bool, true, false, cond, _||_}
 use mathlib.Core.List.{List, [], _∷_}

@@ -1,4 +1,5 @@
--- Document 01, Paths: "Demand 3 means this, for every accepted file", each of its four bullets as a type.
+-- Document 01, Paths: "Demand 3 means this, for every accepted file", each of its four bullets as a type; and what document 02
+-- [5] promises of rows with flag 16, which are in those four too.
 use Prim.Native.Nat.{ℕ, _+_, _*_, _-_, _≤_, _<_}
 use mathlib.Core.Bool.{true, false, cond, _&&_, _||_}
 use mathlib.Core.List.{List}
@@ -78,12 +79,6 @@ abbrev pub Unmade : Account → Type 0
 Unmade a =
     (w h : ℕ) → w < a .positions → h < a .positions → allowed (bookOf a) (unpaired a) w h ≡ false
 
--- A row with flag 16 "is never paired" (document 02 [5]): no contract of it stands in a pair line, all in its left line.
-abbrev pub NeverPaired : Account → Type 0
-NeverPaired a =
-    (r : ℕ) → r < a .positions → a .positionAt r .flags .knockedOut ≡ true
-    → (sumOver (pairQuantity r) (lines a) ≡ 0) × (sumOver (leftQuantity r) (lines a) ≡ a .positionAt r .q)
-
 -- "an amount per unit, in whole fine units, covers a position if it is at least the position's payment on every path
 -- of its series."
 abbrev pub Covers : Series → Position → ℕ → Type 0
@@ -97,7 +92,7 @@ LeastWithFlag16 s p =
     → (unitMargin s p ≡ rebate (p .terms)) × ((amount : ℕ) → Covers s p amount → unitMargin s p ≤ amount)
 
 -- "The unit margin of each written row covers it. Every other amount that covers it and is at least MM is, with one
--- fine unit added, at least that unit margin."
+-- fine unit added, at least that unit margin." With flag 16 there is no minimum.
 abbrev pub LeastFor : Series → Position → Type 0
 LeastFor s p =
     Covers s p (unitMargin s p)
@@ -108,7 +103,23 @@ abbrev pub Least : Account → Type 0
 Least a =
     (r : ℕ) → r < a .positions → a .positionAt r .side ≡ Written → LeastFor (seriesOfRow a r) (a .positionAt r)
 
--- Demand 3 of a file: for whatever account its bytes mean.
+-- A pair line that names row r counts 1.
+abbrev pub pairNames : ℕ → Line → ℕ
+pairNames r x = cond (eqb (x .kind) 1 && (eqb (x .secondNumber) r || eqb (x .thirdNumber) r)) 1 0
+
+-- Document 02 [5], of every row with flag 16, whatever fb is. It "is never paired": no pair line names it, and its left line has
+-- all its contracts. It "pays REB on every path", held or written. Written, its "least amount is REB without the minimum".
+pub record KnockedOutRow (a : Account) (r : ℕ) : Type 0 where
+  pub never-paired : sumOver (pairNames r) (lines a) ≡ 0
+  pub all-left : sumOver (leftQuantity r) (lines a) ≡ a .positionAt r .q
+  pub pays : (path : List ℕ) → IsPath (seriesOfRow a r) path → payment (seriesOfRow a r) (a .positionAt r) path ≡ rebate (a .positionAt r .terms)
+  pub least : a .positionAt r .side ≡ Written → LeastWithFlag16 (seriesOfRow a r) (a .positionAt r)
+
+abbrev pub KnockedOutRows : Account → Type 0
+KnockedOutRows a =
+    (r : ℕ) → r < a .positions → a .positionAt r .flags .knockedOut ≡ true → KnockedOutRow a r
+
+-- Demand 3 of a file, and those rows': for whatever account its bytes mean.
 abbrev pub CoverDemand : List ℕ → Type 0
 CoverDemand b = (a : Account) → meaning b ≡ accepted a → LowFactors a → Cover a
 
@@ -118,8 +129,8 @@ ContractsDemand b = (a : Account) → meaning b ≡ accepted a → Contracts a
 abbrev pub UnmadeDemand : List ℕ → Type 0
 UnmadeDemand b = (a : Account) → meaning b ≡ accepted a → Unmade a
 
-abbrev pub NeverPairedDemand : List ℕ → Type 0
-NeverPairedDemand b = (a : Account) → meaning b ≡ accepted a → NeverPaired a
-
 abbrev pub LeastDemand : List ℕ → Type 0
 LeastDemand b = (a : Account) → meaning b ≡ accepted a → LowFactors a → Least a
+
+abbrev pub KnockedOutDemand : List ℕ → Type 0
+KnockedOutDemand b = (a : Account) → meaning b ≡ accepted a → KnockedOutRows a

@@ -1,4 +1,4 @@
-// The types of document 01, and its sizes and limits. This crate has no functions: its specs/ are the definitions, its
+// The types of documents 01 and 02, and their sizes and limits. This crate has no functions: its specs/ are the definitions, its
 // proofs/ the theorems about them.
 
 // Sizes and limits as code has them. Contracts have the same by the same names (`trailerWidth` and so on, in specs/File.antt,
@@ -146,7 +146,7 @@ pub enum Refusal {
     DayPrices,
 }
 
-// What a row's checks find.
+// What the checks of the trailer, of a row or of a day find.
 pub enum Fault {
     Clean,
     Found(Refusal),
@@ -193,7 +193,7 @@ pub struct Line {
     pub fifthNumber: u64,
 }
 
-// What a series did in a day: its high, low and close in ticks. Any numbers may be asked for.
+// A day of a series: which series row, and its high, low and close in ticks. Any numbers may be handed over.
 pub struct Day {
     pub series: u64,
     pub high: u64,

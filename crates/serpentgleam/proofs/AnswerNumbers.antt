@@ -1,4 +1,5 @@
--- What the operations tell a C program, for every file and every list: the numbers of `rules`' Answers.
+-- What the operations tell a C program, for every file, every list and every day: the numbers of `rules`' Answers and
+-- DayAnswers.
 -- Assumes nothing.
 use Prim.Native.Nat.{ℕ, _≤_, _<_}
 use mathlib.Core.List.{List}

@@ -1,13 +1,10 @@
-use Prim.Native.Nat.{ℕ}
 use Rattle.day.proofs.Loop.{day-by-stores}
 use Rattle.day.proofs.write_day.Statement.{statement}
 use Rattle.day.proofs.write_day.Tie as tie
 use Rattle.rules.proofs.DayLaws.{flags-length}
-use Rattle.rules.specs.Day.{dayWritten, pvPlace}
 use borrow.Author.Needs.{needs}
 use denote.Ref.{now}
 use lib.ListN.{length}
-use mathlib.Core.List.{List}
 use mathlib.Core.Path.{_∙_, ap}
 use native.Mathlib.Omega.{arith}
 

@@ -1,7 +1,8 @@
 use Prim.Native.Nat.{_≤_}
-use Rattle.day.proofs.Loop.{other-row, own-row, row-ends}
+use Rattle.day.proofs.Loop.{other-row, own-row}
 use Rattle.day.proofs.flags.write_row_flags.Statement.{statement}
 use Rattle.day.proofs.flags.write_row_flags.Tie as tie
+use Rattle.rules.proofs.DayLaws.{rows-end}
 use Rattle.rules.specs.Day.{flagsCrossed}
 use Rattle.rules.specs.declared.Barrier.{Barrier}
 use Rattle.rules.specs.declared.PositionRow.{PositionRow}
@@ -26,16 +27,16 @@ cast-file : tie.Need-cast-file
 cast-file c = omega (arith, c .flags-crossed .ensures .1)
 
 mul-file : tie.Need-mul-file
-mul-file c = omega (arith, (row-ends (now (c .before .before .before .before .before .before .before .before .before .args .file)) (c .before .before .before .before .before .before .before .before .before .args .l) (c .before .before .before .before .before .before .before .before .before .args .d) (c .before .before .before .before .before .before .before .before .before .args .r) (c .before .before .before .before .before .before .before .before .before .pre .0) (c .before .before .before .before .before .before .before .before .before .pre .1)), c .before .before .before .before .before .before .before .before .before .pre .0 .size-most)
+mul-file c = omega (arith, (rows-end (now (c .before .before .before .before .before .before .before .before .before .args .file)) (c .before .before .before .before .before .before .before .before .before .args .l) (c .before .before .before .before .before .before .before .before .before .args .d) (c .before .before .before .before .before .before .before .before .before .pre .0) (c .before .before .before .before .before .before .before .before .before .args .r) (c .before .before .before .before .before .before .before .before .before .pre .1)), c .before .before .before .before .before .before .before .before .before .pre .0 .size-most, c .before .before .before .before .before .before .before .before .before .pre .0 .width-is)
 
 add-file : tie.Need-add-file
-add-file c = omega (arith, (row-ends (now (c .before .before .before .before .before .before .before .before .before .before .args .file)) (c .before .before .before .before .before .before .before .before .before .before .args .l) (c .before .before .before .before .before .before .before .before .before .before .args .d) (c .before .before .before .before .before .before .before .before .before .before .args .r) (c .before .before .before .before .before .before .before .before .before .before .pre .0) (c .before .before .before .before .before .before .before .before .before .before .pre .1)), c .before .before .before .before .before .before .before .before .before .before .pre .0 .size-most)
+add-file c = omega (arith, (rows-end (now (c .before .before .before .before .before .before .before .before .before .before .args .file)) (c .before .before .before .before .before .before .before .before .before .before .args .l) (c .before .before .before .before .before .before .before .before .before .before .args .d) (c .before .before .before .before .before .before .before .before .before .before .pre .0) (c .before .before .before .before .before .before .before .before .before .before .args .r) (c .before .before .before .before .before .before .before .before .before .before .pre .1)), c .before .before .before .before .before .before .before .before .before .before .pre .0 .size-most, c .before .before .before .before .before .before .before .before .before .before .pre .0 .width-is)
 
 add-file-2 : tie.Need-add-file-2
-add-file-2 c = omega (arith, (row-ends (now (c .before .before .before .before .before .before .before .before .before .before .args .file)) (c .before .before .before .before .before .before .before .before .before .before .args .l) (c .before .before .before .before .before .before .before .before .before .before .args .d) (c .before .before .before .before .before .before .before .before .before .before .args .r) (c .before .before .before .before .before .before .before .before .before .before .pre .0) (c .before .before .before .before .before .before .before .before .before .before .pre .1)), c .before .before .before .before .before .before .before .before .before .before .pre .0 .size-most)
+add-file-2 c = omega (arith, (rows-end (now (c .before .before .before .before .before .before .before .before .before .before .args .file)) (c .before .before .before .before .before .before .before .before .before .before .args .l) (c .before .before .before .before .before .before .before .before .before .before .args .d) (c .before .before .before .before .before .before .before .before .before .before .pre .0) (c .before .before .before .before .before .before .before .before .before .before .args .r) (c .before .before .before .before .before .before .before .before .before .before .pre .1)), c .before .before .before .before .before .before .before .before .before .before .pre .0 .size-most, c .before .before .before .before .before .before .before .before .before .before .pre .0 .width-is)
 
 slice-write-file : tie.Need-slice-write-file
-slice-write-file c = omega (arith, (row-ends (now (c .before .before .before .before .before .before .before .before .before .before .args .file)) (c .before .before .before .before .before .before .before .before .before .before .args .l) (c .before .before .before .before .before .before .before .before .before .before .args .d) (c .before .before .before .before .before .before .before .before .before .before .args .r) (c .before .before .before .before .before .before .before .before .before .before .pre .0) (c .before .before .before .before .before .before .before .before .before .before .pre .1)), c .before .before .before .before .before .before .before .before .before .before .pre .0 .size-most)
+slice-write-file c = omega (arith, (rows-end (now (c .before .before .before .before .before .before .before .before .before .before .args .file)) (c .before .before .before .before .before .before .before .before .before .before .args .l) (c .before .before .before .before .before .before .before .before .before .before .args .d) (c .before .before .before .before .before .before .before .before .before .before .pre .0) (c .before .before .before .before .before .before .before .before .before .before .args .r) (c .before .before .before .before .before .before .before .before .before .before .pre .1)), c .before .before .before .before .before .before .before .before .before .before .pre .0 .size-most, c .before .before .before .before .before .before .before .before .before .before .pre .0 .width-is)
 
 same-length : tie.Need-same-length
 same-length c = search needs
