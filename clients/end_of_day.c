@@ -13,7 +13,7 @@
 #include <inttypes.h>
 #include <stdio.h>
 
-/* The total of an account file that is accepted. */
+/* The total of an account file; of one that is refused it is not used. */
 static uint64_t total(const uint8_t *file, size_t length)
 {
     static struct serpentgleam_line lines[SERPENTGLEAM_MOST_LINES];

@@ -14,7 +14,7 @@
  * serpentgleam_margin writes during the call alone and which must not overlap the file's bytes.
  *
  * An account file has at most 65,536 bytes. Any bytes may be handed over: a file that is not in order is refused, and
- * nothing is read outside it. With length 0 the pointer may be NULL.
+ * nothing is read or written outside it. With length 0 the pointer may be NULL.
  *
  * A refusal is a number from 1 to 17, below with a name for each; serpentgleam_refusal_sentence gives its sentence. The
  * numbers 3 and 15 are not used. An account without positions is accepted, with no lines, premiums 0 and total 0.

@@ -1,6 +1,8 @@
-// Reads many days with their files on standard input, each as a length in four little-endian bytes and then so many bytes: the
-// day's series, high, low and close in eight little-endian bytes each, and the file. Writes for each `day`, or `refused` with
-// number and row, then the file's bytes as they are after the day, and a line feed.
+// Reads many days with their files on standard input, each as a length in four little-endian bytes and then so many bytes:
+// the day's series, high, low and close in eight little-endian bytes each, and the file. Writes for each `day`, or `refused`
+// with number and row, then the file's bytes as they are after the day, of a file that is too long the first 65,537, and a
+// line feed. An input that is cut off, or a case without a whole day, ends the run with a line that says so; so do
+// 1,000,000,000 cases, without one.
 use account::bytes::u32_at;
 use day::apply_day;
 use framing::Frame;

@@ -10,7 +10,7 @@ use borrow.Author.Tests.{ne-eqb}
 use lib.Dec.{eqb, ltb}
 use Rattle.rules.proofs.Flag16.{payment-with}
 use Rattle.rules.proofs.Least.{least-with}
-use Rattle.rules.proofs.LineLaws.{lines-are, same-either, sum-lines}
+use Rattle.rules.proofs.LineLaws.{lines-are, pair-quantities, same-either, sum-lines}
 use Rattle.rules.proofs.MayPair.{may-pairable, no-flag-16}
 use Rattle.rules.proofs.PairPromises.{contracts}
 use Rattle.rules.proofs.Reading.{accepted-within}
@@ -50,11 +50,11 @@ module _ (a : Account) (r : ℕ) (out : a .positionAt r .flags .knockedOut ≡ t
       rw (lines-are a)
       (omega (arith, sum-lines a (pairNames r) (pairsAfter a p) (contractsAfter a p) p, none (λ m. 1) (pairsAfter a p) (made-sound (bookOf a) (available a) p), sumTo-none _ p (λ i b. same-either (ltb 0 (contractsAfter a p i)) 0)))
 
-  quantities : sumOver (pairQuantity r) (lines a) ≡ 0
-  quantities =
+  quantities-none : sumOver (pairQuantity r) (lines a) ≡ 0
+  quantities-none =
       let p = a .positions in
       rw (lines-are a)
-      (omega (arith, sum-lines a (pairQuantity r) (pairsAfter a p) (contractsAfter a p) p, none (λ m. m .quantity) (pairsAfter a p) (made-sound (bookOf a) (available a) p), sumTo-none _ p (λ i b. same-either (ltb 0 (contractsAfter a p i)) 0)))
+      (pair-quantities a (pairsAfter a p) (contractsAfter a p) p r ∙ none (λ m. m .quantity) (pairsAfter a p) (made-sound (bookOf a) (available a) p))
 
 rows-within : (b : List ℕ) → FileWithin b → KnockedOutRows (accountOf b (layout b))
 unfolding layout
@@ -67,7 +67,7 @@ rows-within b h r there out =
     let series = h .series-rows (row .series) (within .series-below) in
     record {
       never-paired = names-none a r out;
-      all-left = omega (arith, contracts a r there, quantities a r out);
+      all-left = omega (arith, contracts a r there, quantities-none a r out);
       pays = λ path i. payment-with (a .seriesAt (row .series)) (a .positionAt r) out path ∙ ap fine (keeps out);
       least = λ w. least-with (a .seriesAt (row .series)) (a .positionAt r) (mul-le-mul-left (k .pv) (series .fb-most)) keeps;
     }
