@@ -1,4 +1,4 @@
--- Products: two numbers of 32 bits make one of 64, and a product divided by a million, part by part.
+-- Products: two numbers of 32 bits make one of 64, and a product divided by a hundred millions, part by part.
 -- Assumes nothing.
 use Prim.Native.Nat.{ℕ, _+_, _*_, _/_, _%_, _^_, _≤_, _<_}
 use mathlib.Core.Path.{_≡_, ap}
@@ -13,22 +13,22 @@ product-fits a b ha hb =
     let p : a * b ≤ 4_294_967_295 * 4_294_967_295 = mul-le-mul x y in
     omega arith
 
--- The whole millions of u and the rest of u, each times n.
-pub parts : (u n : ℕ) → u * n ≡ 1_000_000 * (u / 1_000_000 * n) + u % 1_000_000 * n
-parts u n = omega (arith, ap (λ (x : ℕ). x * n) (div-add-mod' u 1_000_000))
+-- The whole hundreds of ticks of a unit u and the rest of it, each times n.
+pub parts : (u n : ℕ) → u * n ≡ 100_000_000 * (u / 100_000_000 * n) + u % 100_000_000 * n
+parts u n = omega (arith, ap (λ (x : ℕ). x * n) (div-add-mod' u 100_000_000))
 
-pub split : (u m q : ℕ) → u / 1_000_000 * (m * q) + (u % 1_000_000 * (m * q) + 999_999) / 1_000_000 ≡ amountOf u m q
+pub split : (u m q : ℕ) → (u / 100_000_000 * (m * q) + (u % 100_000_000 * (m * q) + 99_999_999) / 100_000_000) * 100 ≡ amountOf u m q
 split u m q = rw (mul-assoc u m q) (omega (arith, parts u (m * q)))
 
 -- Each part fits.
-pub whole-fits : (u n : ℕ) → u ≤ 100_000_000_000_000 → n ≤ 100_000_000 → u / 1_000_000 * n ≤ 10_000_000_000_000_000
+pub whole-fits : (u n : ℕ) → u ≤ 100_000_000_000_000 → n ≤ 100_000_000 → u / 100_000_000 * n ≤ 100_000_000_000_000
 whole-fits u n a b =
-    let c : u / 1_000_000 ≤ 100_000_000 = omega arith in
+    let c : u / 100_000_000 ≤ 1_000_000 = omega arith in
     mul-le-mul c b
 
-pub rest-fits : (u n : ℕ) → n ≤ 100_000_000 → u % 1_000_000 * n ≤ 100_000_000_000_000
+pub rest-fits : (u n : ℕ) → n ≤ 100_000_000 → u % 100_000_000 * n ≤ 10_000_000_000_000_000
 rest-fits u n b =
-    let c : u % 1_000_000 ≤ 1_000_000 = omega arith in
+    let c : u % 100_000_000 ≤ 100_000_000 = omega arith in
     mul-le-mul c b
 
 pub factor-fits : (m q : ℕ) → m ≤ 1_000 → q ≤ 100_000 → m * q ≤ 100_000_000

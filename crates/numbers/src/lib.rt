@@ -46,12 +46,12 @@ pub fn fine_units(ticks: u32) -> u64
     (ticks as u64) * 1_000_000
 }
 
-// unit × M × Q, divided by 1,000,000 and rounded up once. The product can pass 64 bits, so the whole ticks of the unit
-// and the rest of it are multiplied apart.
+// unit × M × Q, divided by 1,000,000 and rounded up once, to a multiple of 100 centavos (document 02 [6]). The product can
+// pass 64 bits, so the whole hundreds of ticks of the unit and the rest of it are multiplied apart.
 pub fn amount(unit: u64, m: u32, q: u64) -> u64
     requires { ⌜ (unit ≤ 100_000_000_000_000) × (m ≤ 1_000) × (q ≤ 100_000) ⌝ }
     ensures { λ r. ⌜ (r ≡ amountOf unit m q) × (r ≤ 10_000_000_000_000_000) ⌝ }
 {
     let n = (m as u64) * q;
-    (unit / 1_000_000) * n + ((unit % 1_000_000) * n + 999_999) / 1_000_000
+    ((unit / 100_000_000) * n + ((unit % 100_000_000) * n + 99_999_999) / 100_000_000) * 100
 }

@@ -4,6 +4,7 @@ use Prim.Native.Nat.{ℕ, _*_, _≤_, _<_}
 use mathlib.Core.List.{List}
 use mathlib.Core.Path.{_≡_, ap, refl, subst, sym, _∙_}
 use native.Mathlib.Nat.{mul-le-mul}
+use native.Mathlib.Omega.{arith}
 use Rattle.account.proofs.KnownRows.{position-within, row-series}
 use Rattle.account.specs.Known.{Known}
 use Rattle.rules.proofs.Bounds as Bounds
@@ -21,7 +22,7 @@ row-fits b l k row h =
     let s = row-series b l k row h in
     let w = position-within b l k row h in
     record {
-      unit-most = Bounds.unit-most s w;
+      unit-most = omega (arith, Bounds.unit-most s w);
       m-most = s .m-most;
       q-most = w .q-most;
       premium-most = w .premium-most;

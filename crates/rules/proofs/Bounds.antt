@@ -1,6 +1,6 @@
 -- How large numbers of an accepted row get: what keeps the code's sums and products within 64 bits.
 -- Assumes nothing.
-use Prim.Native.Nat.{ℕ, _/_, _%_, _≤_, _<_, max}
+use Prim.Native.Nat.{ℕ, _+_, _/_, _%_, _≤_, _<_, max}
 use mathlib.Core.Bool.{Bool, true, false, cond}
 use mathlib.Core.Logic.{_⊎_, inl, inr}
 use mathlib.Core.Path.{_≡_}
@@ -24,8 +24,8 @@ use Rattle.rules.specs.declared.Series.{Series}
 use Rattle.rules.specs.declared.SeriesRow.{SeriesRow}
 use Rattle.rules.specs.declared.Terms.{Terms}
 
--- No unit margin is above n where MM, REB, PE and the limit in force of a call are not.
-module _ (n : ℕ) (s : Series) (p : Terms) (mm : minimum s ≤ n) (reb : rebate p ≤ n) (pe : fine (p .pe) ≤ n) (pb : limitOr (p .limiter) (high s) ≤ n) where
+-- No unit margin is above n where MM, REB, PE and what the limit in force of a call is above PE are not.
+module _ (n : ℕ) (s : Series) (p : Terms) (mm : minimum s ≤ n) (reb : rebate p ≤ n) (pe : fine (p .pe) ≤ n) (pb : limitOr (p .limiter) (high s) ≤ n + fine (p .pe)) where
   charge-most : (k : OptionType) (x : ℕ) → charge k s p x ≤ n
   charge-most Call x = omega arith
   charge-most Put x = omega arith
@@ -76,23 +76,23 @@ module _ {n : ℕ} {k : SeriesRow} {r : PositionRow} (s : SeriesWithin k) (w : P
       cond-case (λ (m : Limiter). limitOr m (high (seriesOf k)) ≤ 100_000_000_000_000) (flagsOf (r .flags) .limited) (At (r .pb)) NoLimiter
       (λ _. omega (arith, pb-most)) (λ _. high-most)
 
-  -- A unit margin is at most 10^14, H at the largest PV and fa.
-  pub unit-most : unitMargin (seriesOf k) (positionOf r) ≤ 100_000_000_000_000
+  -- A unit margin is at most 99,999,999 ticks: H at the largest PV and fa, less the least PE.
+  pub unit-most : unitMargin (seriesOf k) (positionOf r) ≤ 99_999_999_000_000
   unfolding unitMargin
   unit-most = by-flag-16 (positionOf r .flags .knockedOut)
     where
-      rebate-most : (t : Bool) → rebate (afterFlag1 t (termsOf r)) ≤ 100_000_000_000_000
+      rebate-most : (t : Bool) → rebate (afterFlag1 t (termsOf r)) ≤ 99_999_999_000_000
       rebate-most true = omega arith
       rebate-most false = omega (arith, w .reb-most)
 
-      by-flag : (t : Bool) → unitBy (seriesOf k .option) (afterFlag1 t (termsOf r) .barrier) (seriesOf k) (afterFlag1 t (termsOf r)) ≤ 100_000_000_000_000
+      by-flag : (t : Bool) → unitBy (seriesOf k .option) (afterFlag1 t (termsOf r) .barrier) (seriesOf k) (afterFlag1 t (termsOf r)) ≤ 99_999_999_000_000
       by-flag true =
           rw mirror
-          (rule-most 100_000_000_000_000 (seriesOf k) (afterFlag1 true (termsOf r)) (omega (arith, minimum-most)) (omega arith) (omega (arith, w .pe-most)) limit-most (seriesOf k .option) NoBarrier)
+          (rule-most 99_999_999_000_000 (seriesOf k) (afterFlag1 true (termsOf r)) (omega (arith, minimum-most)) (omega arith) (omega (arith, w .pe-most)) (omega (arith, limit-most, w .pe-least)) (seriesOf k .option) NoBarrier)
       by-flag false =
           rw mirror
-          (rule-most 100_000_000_000_000 (seriesOf k) (termsOf r) (omega (arith, minimum-most)) (omega (arith, w .reb-most)) (omega (arith, w .pe-most)) limit-most (seriesOf k .option) (termsOf r .barrier))
+          (rule-most 99_999_999_000_000 (seriesOf k) (termsOf r) (omega (arith, minimum-most)) (omega (arith, w .reb-most)) (omega (arith, w .pe-most)) (omega (arith, limit-most, w .pe-least)) (seriesOf k .option) (termsOf r .barrier))
 
-      by-flag-16 : (t : Bool) → unitByFlag16 t (seriesOf k) (normal (positionOf r)) ≤ 100_000_000_000_000
+      by-flag-16 : (t : Bool) → unitByFlag16 t (seriesOf k) (normal (positionOf r)) ≤ 99_999_999_000_000
       by-flag-16 true = rebate-most (positionOf r .flags .knockedIn)
       by-flag-16 false = by-flag (positionOf r .flags .knockedIn)

@@ -91,15 +91,14 @@ order =
 abbrev bytes2 : ℕ → List ℕ
 bytes2 n = n % 256 ∷ n / 256 % 256 ∷ []
 
+-- A series row: PV, fa, fb, f3, M, type, last spare byte.
+abbrev pub seriesRowBytes : ℕ → ℕ → ℕ → ℕ → ℕ → ℕ → ℕ → List ℕ
+seriesRowBytes pv fa fb f3 m option spare =
+    bytes4 pv ++ bytes4 fa ++ bytes4 fb ++ bytes4 f3 ++ bytes4 m ++ (option ∷ 0 ∷ 0 ∷ spare ∷ [])
+
 -- A call series row of the PV and last spare byte given.
 abbrev pub seriesBytes : ℕ → ℕ → List ℕ
-seriesBytes pv spare =
-    bytes4 pv
-    ++ bytes4 1_200_000
-    ++ bytes4 800_000
-    ++ bytes4 50_000
-    ++ bytes4 5
-    ++ (0 ∷ 0 ∷ 0 ∷ spare ∷ [])
+seriesBytes pv spare = seriesRowBytes pv 1_200_000 800_000 50_000 5 0 spare
 
 -- A European written row of the kind, last spare byte, contracts and barrier price given.
 abbrev positionBytes : ℕ → ℕ → ℕ → ℕ → List ℕ

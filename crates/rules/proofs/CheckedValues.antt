@@ -69,8 +69,8 @@ pub checked-values :
     × (mayPair (series Call) (row Written 3100 NoLimiter NoBarrier 0) (row Held 3600 NoLimiter NoBarrier 0) ≡ false)
     -- OD 2400 both, REBw 60, REBh 25, PEh 3000: 35
     × (unitSpread (series Call) (row Held 3000 NoLimiter (DownOut 2400) 25) (row Written 3100 NoLimiter (DownOut 2400) 60) ≡ Margin (fine 35))
-    -- PV 3001, fa 1,234,567, PE 3100, Q 10: 30247 centavos
-    × (amountOf (unitMargin oddSeries (row Written 3100 NoLimiter NoBarrier 0)) (oddSeries .m) 10 ≡ 30_247)
+    -- PV 3001, fa 1,234,567, PE 3100, Q 10: 30247 centavos, and "30247 in document 01 becomes 30300" (document 02 [6])
+    × (amountOf (unitMargin oddSeries (row Written 3100 NoLimiter NoBarrier 0)) (oddSeries .m) 10 ≡ 30_300)
 unfolding unitMargin unitSpread
 checked-values =
     (refl, refl, refl, refl, refl, refl, refl, refl, refl, refl, refl, refl, refl, refl, refl, refl)

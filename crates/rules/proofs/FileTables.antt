@@ -4,7 +4,7 @@ use mathlib.Core.Bool.{Bool, true, false}
 use mathlib.Core.List.{List, [], _∷_, _++_}
 use mathlib.Core.Path.{_≡_}
 use lib.IntN.{negℤ, pos}
-use Rattle.rules.proofs.CheckOrder.{noRows, trailerBytes}
+use Rattle.rules.proofs.CheckOrder.{noRows, seriesRowBytes, trailerBytes}
 use Rattle.rules.proofs.CheckedValues.{series}
 use Rattle.rules.specs.File.{barrierOf, flagsOf, limiterOf, optionOf, positionRowFrom, positionWidth, seriesRowFrom, seriesWidth, sideOf, span, trailerWidth, u16At, u24At, u32At, u8At}
 use Rattle.rules.specs.Limits.{mostBytes, mostPositions, mostSeries}
@@ -108,8 +108,7 @@ rowBytes number side kind flags q pe pb price reb premium =
 
 -- A series row of the PV and type given.
 abbrev pub typedBytes : ℕ → ℕ → List ℕ
-typedBytes pv option =
-    bytes4 pv ++ bytes4 1_200_000 ++ bytes4 800_000 ++ bytes4 50_000 ++ bytes4 5 ++ (option ∷ 0 ∷ 0 ∷ 0 ∷ [])
+typedBytes pv option = seriesRowBytes pv 1_200_000 800_000 50_000 5 option 0
 
 -- A call series and a put series with two position rows, of which the first is in order.
 abbrev pub twoRows : List ℕ → List ℕ

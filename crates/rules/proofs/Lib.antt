@@ -4,6 +4,7 @@ pub mod CheckedValues
 pub mod MarginTables
 pub mod SpreadTables
 pub mod FileTables
+pub mod ReaisTables
 pub mod RuleValues
 -- Laws of the reading.
 pub mod Tests
@@ -36,11 +37,15 @@ pub mod Weights
 pub mod Counts
 pub mod MayPair
 pub mod LineLaws
+pub mod Reais
+pub mod Raised
 pub mod PairPromises
 pub mod AccountCover
 pub mod PairingExample
 -- Bounds for the code.
 pub mod Bounds
+-- The largest amounts.
+pub mod Most
 -- Demand 3, and rows with flag 16.
 pub mod Demand3
 pub mod KnockedOut

@@ -11,11 +11,12 @@ use lib.ListN.{length, length-append}
 use borrow.Author.Tests.{eq-eqb, ltb-false, ltb-true, ne-eqb}
 use Rattle.rules.proofs.Counts.{bound, openRows}
 use Rattle.rules.proofs.Rounds.{named}
-use Rattle.rules.proofs.Sums.{sumOver-append, sumOver-none, sumTo-none, sumTo-only, sumTo-same}
+use Rattle.rules.proofs.Sums.{each-append, sumOver-append, sumOver-none, sumTo-none, sumTo-only, sumTo-same}
 use Rattle.rules.specs.File.{Account, seriesOfRow}
 use Rattle.rules.specs.Lines.{leftAmount, leftLine, leftLines, lineAmount, lines, linesAfter, pairLine, pairLines, spreadAmount, sumOver, sumTo, total, totalAfter}
 use Rattle.rules.specs.Pairs.{Made, available, bookOf, contractsAfter, pairsAfter}
 use Rattle.rules.specs.Promises.{lineBringsIn, leftQuantity, pairQuantity, rowPayment}
+use Rattle.rules.specs.Reais.{Each}
 use Rattle.rules.specs.declared.Line.{Line}
 use Rattle.rules.specs.declared.Position.{Position}
 use Rattle.rules.specs.declared.Series.{Series}
@@ -53,6 +54,27 @@ module _ (a : Account) (f : Line → ℕ) where
       ≡ sumOver (λ m. f (pairLine a m)) l + sumTo (λ r. cond (ltb 0 (left r)) (f (leftLine a r (left r))) 0) n
   sum-lines l left n =
       sumOver-append f (pairLines a l) _ ∙ ap₂ (λ x y. x + y) (sum-pairs l) (sum-left left n)
+
+-- What holds of each pair's line and of each row's left line holds of each line.
+module _ (a : Account) (P : Line → Type 0) where
+  each-pair : (l : List Made) → Each (λ m. P (pairLine a m)) l → Each P (pairLines a l)
+  unfolding pairLines
+  each-pair [] each = tt
+  each-pair (m ∷ l) each = (each .0, each-pair l (each .1))
+
+  each-left : (left : ℕ → ℕ) (n : ℕ) → ((r : ℕ) → r < n → P (leftLine a r (left r))) → Each P (leftLines a left n)
+  unfolding leftLines
+  each-left left zero each = tt
+  each-left left (suc r) each =
+      each-append P (leftLines a left r) _ (each-left left r (λ i l. each i (omega arith))) (go (ltb 0 (left r)))
+    where
+      go : (t : Bool) → Each P (cond t (leftLine a r (left r) ∷ []) [])
+      go true = (each r (omega arith), tt)
+      go false = tt
+
+  pub each-line : (l : List Made) (left : ℕ → ℕ) (n : ℕ) → Each (λ m. P (pairLine a m)) l
+      → ((r : ℕ) → r < n → P (leftLine a r (left r))) → Each P (pairLines a l ++ leftLines a left n)
+  each-line l left n pairs rows = each-append P (pairLines a l) _ (each-pair l pairs) (each-left left n rows)
 
 pub same-either : (x : Bool) (n : ℕ) → cond x n n ≡ n
 same-either true n = refl

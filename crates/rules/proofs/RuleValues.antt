@@ -1,6 +1,6 @@
 -- A second table of computed values, one theorem: at least one value for each rule of document 01 that its starred values
 -- leave free, so that a definition changed by mistake contradicts one of them. Its parts are the types of MarginTables,
--- SpreadTables and FileTables.
+-- SpreadTables, FileTables and ReaisTables.
 -- Assumes nothing.
 use mathlib.Core.Path.{refl}
 use native.Mathlib.Omega.{arith}
@@ -15,12 +15,14 @@ use Rattle.rules.specs.Spreads.{unitSpread}
 use Rattle.rules.proofs.MarginTables.{UnitMargins, InBarrierMargins, KnockedOut, OutBarrierMargins, Payments, ThreePrices}
 use Rattle.rules.proofs.SpreadTables.{SameRowSpreads, LimitedSpreads, PlainSpreads, CoveringOutSpreads, OtherOutSpreads, Pairing}
 use Rattle.rules.proofs.FileTables.{Answers, Fields, FlagBits, Numbers, Sizes}
+use Rattle.rules.proofs.ReaisTables.{Largest, Raised, Roundings}
 
 pub rule-values :
     UnitMargins × InBarrierMargins × OutBarrierMargins
     × SameRowSpreads × LimitedSpreads × PlainSpreads × CoveringOutSpreads × OtherOutSpreads × Pairing
     × Fields × FlagBits × Sizes × Numbers × Answers
     × Payments × ThreePrices × KnockedOut
+    × Roundings × Raised × Largest
 unfolding unitMargin unitSpread marginText linesText pairText leftText totalsText refusedText decimalIn marginAnswer linesGiven lines leftLines pairLines leftAfter madeAfter through along mayOf gapOf premiums total sumTo sumOver meaning fileRead layout seriesRow positionRow seriesRows positionRows rows trailerFault seriesRowFault positionRowFault matchedFault refuse amountAnswer positionAmount premiumAnswer payment
 rule-values = (
   (refl, refl, refl, refl, refl, refl, refl, refl, refl),
@@ -40,4 +42,7 @@ rule-values = (
   (refl, refl, refl, refl, refl, refl, refl, refl, refl, refl, refl, refl, refl, refl, refl),
   omega arith,
   (refl, refl, refl, refl, refl, refl, refl),
+  (refl, refl, refl, refl, refl),
+  (refl, refl, refl, refl, refl, refl, refl),
+  (refl, refl),
 )

@@ -8,20 +8,24 @@ use native.Mathlib.Nat.{eq-or-lt-of-le, le-of-suc-le-suc}
 use native.Mathlib.Numerals.{add-one}
 use native.Mathlib.Omega.{arith}
 use Rattle.rules.specs.Lines.{sumOver, sumTo}
-
--- P holds of each element of a list.
-abbrev pub Each : {A : Type 0} → (A → Type 0) → List A → Type 0
-Each P [] = Unit {0}
-Each P (x ∷ l) = P x × Each P l
+use Rattle.rules.specs.Reais.{Each}
 
 module _ {A : Type 0} where
   pub each-append : (P : A → Type 0) (l m : List A) → Each P l → Each P m → Each P (l ++ m)
   each-append P [] m p q = q
   each-append P (x ∷ l) m p q = (p .0, each-append P l m (p .1) q)
 
+  pub each-all : {P : A → Type 0} → ((x : A) → P x) → (l : List A) → Each P l
+  each-all f [] = tt
+  each-all f (x ∷ l) = (f x, each-all f l)
+
   pub each-map : {P Q : A → Type 0} → ((x : A) → P x → Q x) → (l : List A) → Each P l → Each Q l
   each-map f [] p = tt
   each-map f (x ∷ l) p = (f x (p .0), each-map f l (p .1))
+
+  pub each-both : {P Q R : A → Type 0} → ((x : A) → P x → Q x → R x) → (l : List A) → Each P l → Each Q l → Each R l
+  each-both f [] p q = tt
+  each-both f (x ∷ l) p q = (f x (p .0) (q .0), each-both f l (p .1) (q .1))
 
   pub sumOver-append : (f : A → ℕ) (l m : List A) → sumOver f (l ++ m) ≡ sumOver f l + sumOver f m
   unfolding sumOver

@@ -13,3 +13,5 @@ pub mod Promises
 -- Document 02 [5].
 pub mod Writing
 pub mod Day
+-- Document 02 [6].
+pub mod Reais

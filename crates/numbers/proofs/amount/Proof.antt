@@ -18,8 +18,11 @@ add-result c = let a = c .args in omega (arith, rest-fits (a .unit) _ (factor-fi
 add-result-2 : tie.Need-add-result-2
 add-result-2 c = let a = c .args in omega (arith, whole-fits (a .unit) _ (c .pre .0) (factor-fits (a .m) (a .q) (c .pre .1) (c .pre .2)), rest-fits (a .unit) _ (factor-fits (a .m) (a .q) (c .pre .1) (c .pre .2)))
 
+mul-result-3 : tie.Need-mul-result-3
+mul-result-3 c = let a = c .args in omega (arith, whole-fits (a .unit) _ (c .pre .0) (factor-fits (a .m) (a .q) (c .pre .1) (c .pre .2)), rest-fits (a .unit) _ (factor-fits (a .m) (a .q) (c .pre .1) (c .pre .2)))
+
 returns : tie.Need-returns
 returns c = let a = c .args in (split (a .unit) (a .m) (a .q), rw (split (a .unit) (a .m) (a .q)) (amount-most (a .unit) (a .m) (a .q) (c .pre .0) (c .pre .1) (c .pre .2)))
 
 pub amount-spec : {M : Type 1} → statement M
-amount-spec = tie.close (tie.spec mul-n mul-result mul-result-2 add-result add-result-2 returns)
+amount-spec = tie.close (tie.spec mul-n mul-result mul-result-2 add-result add-result-2 mul-result-3 returns)
