@@ -26,6 +26,16 @@ def answers_of(output):
     return output.decode().split('\n\n')[:-1]
 
 
+def amounts_of(lines):
+    """Of each file the lines of position_amounts, up to the refusal that ends them."""
+    amounts = []
+    for line in lines:
+        amounts.append(line)
+        if line.startswith('refused'):
+            yield amounts
+            amounts = []
+
+
 def vector_bytes(name, program='margin_batch'):
     """What stands in a program's file `stdin` or `stdout`."""
     with open(os.path.join(CRATES, program, name), 'rb') as file:

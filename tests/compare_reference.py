@@ -11,7 +11,7 @@ import sys
 
 from top import TOP, path
 
-from account_batch import vector_bytes, vectors
+from account_batch import amounts_of, vector_bytes, vectors
 
 CARGO = path('target', 'cargo')
 
@@ -32,16 +32,6 @@ def same_reading(answer, amounts):
     """An accepted file's rows end in refusal 13, any other file has its own refusal alone."""
     first = answer.splitlines()[0]
     return [first] == amounts if first.startswith('refused') else amounts[-1] == 'refused 13 0'
-
-
-def amounts_of(lines):
-    """Of each file the lines of position_amounts, up to the refusal that ends them."""
-    amounts = []
-    for line in lines:
-        amounts.append(line)
-        if line.startswith('refused'):
-            yield amounts
-            amounts = []
 
 
 def told(amounts, row):

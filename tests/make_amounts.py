@@ -1,10 +1,10 @@
 #!/usr/bin/env python3
 """Writes the accounts that `position_amounts` is run on, and what it must write.
 
-Each case is an account file and the answer that document 01 gives it, for flag 16 with document 02 [5], stated by hand
-beside it: the amounts of its rows, or the reading's refusal. Most amounts are those of document 01, Checked values, starred
-or not: a unit margin in ticks times M 5 and Q 10. Run it from anywhere; `git status` shows no difference where nothing
-changed.
+Each case is an account file and the answer that document 01 gives it, for flag 16 with document 02 [5] and for the rounding
+with document 02 [6], stated by hand beside it: the amounts of its rows, or the reading's refusal. Many amounts are those of
+document 01, Checked values, starred or not: a unit margin in ticks times M 5 and Q 10, which is a multiple of 100 centavos,
+or times M 1 and Q 1, rounded up to one. Run it from anywhere; `git status` shows no difference where nothing changed.
 """
 from accounts import CALL, EXAMPLE, PUT, account, last, one, position, series, write
 
@@ -30,14 +30,27 @@ CHECKED_PUTS = [
     (dict(pe=3200, kind=1, price=3600), 320),
     (dict(pe=2900, kind=4, price=2500), 400),
 ]
+# What they come to with M 1 and Q 1.
+CALLS_IN_REAIS = [500, 200, 200, 500, 200, 400, 500, 600, 500, 400, 500, 500]
+PUTS_IN_REAIS = [400, 400]
 
 
-def rows(checked):
-    return [position(**fields) for fields, _ in checked]
+def rows(checked, q=10):
+    return [position(q=q, **fields) for fields, _ in checked]
 
 
 def amounts(checked):
     return [ticks * 50 for _, ticks in checked]
+
+
+def no_minimum(m=1, **fields):
+    """A series with H 3600 and L 2400 unless other numbers are given, and no minimum margin."""
+    return series(f3=0, m=m, **fields)
+
+
+def strikes(*prices):
+    """A written contract at each strike."""
+    return [position(q=1, pe=pe) for pe in prices]
 
 
 ROWS_ON_THE_COVER = pack(SERIES, series()) + pack(POSITION, position(kind=9))
@@ -57,7 +70,8 @@ LIMITERS = account(CALL, [position(flags=6, pb=3400), position(side=0, flags=6, 
 ACCEPTED = [
     (account(CALL, rows(CHECKED_CALLS)), amounts(CHECKED_CALLS)),
     (account(PUT, rows(CHECKED_PUTS)), amounts(CHECKED_PUTS)),
-    (account([series(pv=3001, fa=1_234_567)], [position()]), [30_247]),
+    # 604.935567 ticks a contract: 30246.77835 centavos
+    (account([series(pv=3001, fa=1_234_567)], [position()]), [30_300]),
     (EXAMPLE, [25_000, 0, 300]),
     # the largest payoff, M and Q: the product before the division is near 10^22
     (LARGEST, [9_999_999_900_000_000]),
@@ -66,7 +80,7 @@ ACCEPTED = [
     # the same of puts; the highest barrier price and REB, and no flag beside 16
     (KNOCKED_OUT_PUTS, [2_000, 500_000_000]),
     # one fine unit is rounded up once, not once a contract
-    (account([series(1, 1_000_001, 0, 0, 1)], [position(q=100, pe=1)]), [1]),
+    (account([series(1, 1_000_001, 0, 0, 1)], [position(q=100, pe=1)]), [100]),
     (account(CALL, [position()] * 256), [25_000] * 256),
     # cover sheets, the largest counts and the longest file
     (account(CALL, [position()], cover=ROWS_ON_THE_COVER), [25_000]),
@@ -88,6 +102,47 @@ ACCEPTED = [
     (one(kind=3, price=3001, reb=10_000_000), [500_000_000]),
     (one(kind=4, price=2999), [25_000]),
     (one(side=0, premium=10_000_000), [500_000_000]),
+]
+
+# Rounded up to a multiple of 100 centavos (document 02 [6])
+IN_REAIS = [
+    (account([series(m=1)], rows(CHECKED_CALLS, q=1)), CALLS_IN_REAIS),
+    (account([series(m=1, option=1)], rows(CHECKED_PUTS, q=1)), PUTS_IN_REAIS),
+    # 0, 1, 99, 100, 101, 199, 200 and 201 ticks of one centavo
+    (account([no_minimum()], strikes(3600, 3599, 3501, 3500, 3499, 3401, 3400, 3399)),
+     [0, 100, 100, 100, 200, 200, 200, 300]),
+    (account([no_minimum(option=1)], strikes(2400, 2401, 2499, 2500, 2501, 2599, 2600, 2601)),
+     [0, 100, 100, 100, 200, 200, 200, 300]),
+    # MM 5,882,353 x 17 = 100,000,001 fine units, one more than 100 ticks; 9,090,909 x 11 = 99,999,999, one less; 100 ticks
+    (account([series(5_882_353, 1_000_000, 0, 17, 1)], strikes(10_000_000)), [200]),
+    (account([series(9_090_909, 1_000_000, 0, 11, 1)], strikes(10_000_000)), [100]),
+    (account([series(100, 1_000_000, 0, 1_000_000, 1)], strikes(10_000_000)), [100]),
+    # a row of one tick, M 3 and 5: 99, 102, 100 and 105 centavos
+    (account([no_minimum(3), no_minimum(5)], [position(q=33, pe=3599), position(q=34, pe=3599),
+                                              position(series=1, q=20, pe=3599), position(series=1, q=21, pe=3599)]),
+     [100, 200, 100, 200]),
+    # premiums stay: 7 x 5 x 3, and of one contract 1, 20 and 99 ticks of 5 centavos
+    (account(CALL, [position(side=0, q=3, premium=7), position(side=0, q=1, premium=1), position(side=0, q=1, premium=20),
+                    position(side=0, q=1, premium=99)]), [105, 5, 100, 495]),
+    # M 1: 1, 99, 100 and 101 centavos, and one row written between them, of 500 ticks
+    (account([no_minimum()], [position(side=0, q=1, premium=1), position(side=0, q=1, premium=99), position(q=1),
+                              position(side=0, q=1, premium=100), position(side=0, q=1, premium=101)]),
+     [1, 99, 500, 100, 101]),
+    # flag 16, a contract: 5, 95, 100 and 105 centavos, and a premium of 5
+    (account(CALL, [position(kind=3, flags=20, price=3500, q=1, reb=1), position(kind=4, flags=20, price=2500, q=1, reb=19),
+                    position(kind=3, flags=20, price=3500, q=1, reb=20), position(kind=4, flags=20, price=2500, q=1, reb=21),
+                    position(side=0, kind=3, flags=20, price=3500, q=1, reb=1, premium=1)]), [100, 100, 100, 200, 5]),
+    # the rows of a pair by themselves: 2 ticks and 2 contracts are 4 centavos; a held row without premium is nothing
+    (account([no_minimum(pv=10)], [position(q=2, pe=10), position(side=0, q=1, pe=11)]), [100, 0]),
+    (account([no_minimum(pv=10, option=1)], [position(q=2, pe=10), position(side=0, q=1, pe=9)]), [100, 0]),
+    # 256 rows of one centavo, and of 100
+    (account([no_minimum()], strikes(3599) * 256), [100] * 256),
+    (account([no_minimum(100)], strikes(3599) * 256), [100] * 256),
+    # 99,999,979,000,001 fine units x 1,000 x 99,999: 9,999,897,900,021,099.999 centavos
+    (account([series(9_999_999, 9_999_999, 0, 0, 1000)], [position(q=99_999, pe=1)]), [9_999_897_900_021_100]),
+    # 100,000 contracts of one fine unit and M 1,000 are 100 centavos, of M 999 less, and those of two are more
+    (account([series(1, 1_000_001, 0, 0, 1000), series(1, 1_000_001, 0, 0, 999), series(1, 1_000_002, 0, 0, 999)],
+             [position(series=i, q=100_000, pe=1) for i in range(3)]), [100, 100, 200]),
 ]
 
 REFUSED = [
@@ -193,7 +248,7 @@ REFUSED = [
     (one(kind=1, price=0, reb=1), 'refused 10 0'),
 ]
 
-CASES = ACCEPTED + REFUSED
+CASES = ACCEPTED + REFUSED + IN_REAIS
 
 
 def told(answer):

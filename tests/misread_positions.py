@@ -10,7 +10,12 @@ PUT_OUT_DOWN = 'Barrier::DownAndOut(od) if l > fine(od) => max(mm, payoff(l)),'
 PUT_OUT_UP = 'Barrier::UpAndOut(ou) if h < fine(ou) => max(mm, payoff(l)),'
 OUT = [CALL_OUT_DOWN, CALL_OUT_UP, PUT_OUT_DOWN, PUT_OUT_UP]
 EXACT = 'let exact = unit * m * quantity;'
-NO_REMAINDER = 'if whole * million == exact {'
+NO_REMAINDER = 'if whole * one_real == exact {'
+AMOUNT = 'pub fn amount(unit: i64, m: i64, quantity: i64) -> i64 {'
+UP_TO = '''fn up_to(number: i128, step: i128) -> i128 {
+    (number + step - 1) / step * step
+}
+'''
 KNOCKED_IN = 'barrier: Barrier::None, rebate: 0, ..of_row }'
 
 
@@ -53,12 +58,14 @@ TABLE = [
         (ACCOUNT, KNOCKED_IN, KNOCKED_IN.replace('rebate: 0', 'rebate: self.rebate'))]),
     ('flag 1 not applied', 'barrier and REB kept where flag 1 is set', [
         (ACCOUNT, 'if self.already_knocked_in {', 'if false {')]),
-    ('rounded down', 'the amount rounded down', [(POSITION, 'whole + 1', 'whole')]),
-    ('rounded to the nearest', 'the amount rounded to the nearest centavo', [
-        (POSITION, NO_REMAINDER, 'if exact - whole * million < million / 2 {')]),
-    ('rounded up always', 'a whole amount raised too', [(POSITION, NO_REMAINDER, 'if exact == 0 {')]),
-    ('rounding each contract', 'the amount of one contract rounded, then multiplied', [
-        (POSITION, EXACT, 'let exact = (unit * m + million - 1) / million * million * quantity;')]),
+    ('rounded down', 'the amount rounded down to a real', [(POSITION, 'whole + 1', 'whole')]),
+    ('rounded to the nearest', 'the amount rounded to the nearest real', [
+        (POSITION, NO_REMAINDER, 'if exact - whole * one_real < one_real / 2 {')]),
+    ('rounded up always', 'a multiple of 100 above 0 raised too', [(POSITION, NO_REMAINDER, 'if exact == 0 {')]),
+    ('rounding each contract', 'the amount of one contract rounded to a real, then multiplied', [
+        (POSITION, EXACT, 'let exact = up_to(unit * m, real * million) * quantity;'), (POSITION, AMOUNT, UP_TO + AMOUNT)]),
+    ('rounding each contract to a centavo', 'the amount of one contract rounded to a centavo, the line to a real', [
+        (POSITION, EXACT, 'let exact = up_to(unit * m, million) * quantity;'), (POSITION, AMOUNT, UP_TO + AMOUNT)]),
     ('rounding each tick', 'the unit margin rounded to ticks, then multiplied', [
-        (POSITION, EXACT, 'let exact = (unit + million - 1) / million * million * m * quantity;')]),
+        (POSITION, EXACT, 'let exact = up_to(unit, million) * m * quantity;'), (POSITION, AMOUNT, UP_TO + AMOUNT)]),
 ]

@@ -36,8 +36,8 @@ def pairing(old, new):
 WHO_MAY_PAIR = [
     ('pairing at equal margins', 'a pair allowed where it does not lower the margin',
      pairing(ALLOWED, 'if alone >= spread {')),
-    ('margins in centavos', 'margins compared after rounding, for one contract',
-     pairing(ALLOWED, 'if amount(alone, series.m, 1) > amount(spread, series.m, 1) {')),
+    ('margins in centavos', 'margins compared after rounding to a centavo, for one contract',
+     pairing(ALLOWED, 'if (alone * series.m + 999_999) / 1_000_000 > (spread * series.m + 999_999) / 1_000_000 {')),
     ('flag 8 ignored', 'only European rows pair', [(ACCOUNT, EITHER_FLAG, 'self.european')]),
     ('flag 4 ignored', 'only rows opened before the annex pair', [(ACCOUNT, EITHER_FLAG, 'self.opened_before_annex')]),
     ('both alike', 'both European, or both opened before the annex', pairing(BOTH_MAY, BOTH_ALIKE)),

@@ -4,12 +4,14 @@
 The tables stand in the files misread_*.py beside this one. A misreading there is a name, what is misread, and a list of
 changes: a file below reference/src, a text that stands in it exactly once, and the text put in its place. Each changed
 copy margins the reference's vectors (the accounts in crates/margin_batch/stdin); an account notices where its output is
-not that of crates/margin_batch/stdout. With a misreading of the day it brings the files of crates/day_batch/stdin up to
-date; a case notices where its answer or the bytes after it are not those of crates/day_batch/stdout. With a misreading
-of the factors it prints the list of all factors; a line notices where it is not that of crates/factors_list/stdout.
+not that of crates/margin_batch/stdout. With a misreading of the amount for one position it prints those of the files in
+crates/position_amounts/stdin; a file notices where its amounts are not those of crates/position_amounts/stdout. With a
+misreading of the day it brings the files of crates/day_batch/stdin up to date; a case notices where its answer or the
+bytes after it are not those of crates/day_batch/stdout. With a misreading of the factors it prints the list of all
+factors; a line notices where it is not that of crates/factors_list/stdout.
 
-Needs cargo. Prints three tables in markdown, each with a summary. Exit status 1 where a misreading is noticed by no
-account, by no case, or by no line.
+Needs cargo. Prints four tables in markdown, each with a summary. Exit status 1 where a misreading is noticed by no
+account, by no file, by no case, or by no line.
 """
 import os
 import subprocess
@@ -17,6 +19,7 @@ import sys
 import tempfile
 from collections import namedtuple
 
+import misread_amounts
 import misread_days
 import misread_factors
 import misread_file
@@ -26,10 +29,11 @@ import misread_no_positions
 import misread_order
 import misread_pairs
 import misread_positions
+import misread_reais
 import misread_spreads
 from top import path
 
-from account_batch import answers_of, files_of, vector_bytes
+from account_batch import amounts_of, answers_of, files_of, framed, vector_bytes
 
 # What notices, a program of the reference, its input, its output as a list of what can notice, and the misreadings.
 Noticing = namedtuple('Noticing', 'what program given parts_of expected tables')
@@ -37,12 +41,23 @@ Noticing = namedtuple('Noticing', 'what program given parts_of expected tables')
 MODULES = ['account', 'day', 'factors', 'factors_list', 'lines', 'output', 'pairing', 'position', 'position_row',
            'reader', 'spread']
 TABLES = [misread_positions, misread_spreads, misread_limiters, misread_pairs, misread_file, misread_no_positions,
-          misread_knocked_out, misread_order]
+          misread_knocked_out, misread_reais, misread_order]
 DAY_BYTES = 32
 
 
 def by_accounts():
     return Noticing('account', 'margin_reference_batch', vector_bytes('stdin'), answers_of, vector_bytes('stdout'), TABLES)
+
+
+def by_files_of_amounts():
+    """The last file is cut off, which the program of the reference does not take."""
+    given = framed(files_of(vector_bytes('stdin', 'position_amounts'))[:-1])
+    expected = vector_bytes('stdout', 'position_amounts')
+
+    def amounts(output):
+        return list(amounts_of(output.decode().splitlines()))
+
+    return Noticing('file', 'amounts_reference_batch', given, amounts, expected, [misread_amounts])
 
 
 def by_cases_of_days():
@@ -127,7 +142,7 @@ def print_table(noticing):
 
 def main():
     noticed = []
-    for noticing in (by_accounts(), by_cases_of_days(), by_lines_of_factors()):
+    for noticing in (by_accounts(), by_files_of_amounts(), by_cases_of_days(), by_lines_of_factors()):
         if noticed:
             print()
         noticed.append(print_table(noticing))

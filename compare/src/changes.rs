@@ -2,6 +2,7 @@
 
 use reference::day::Day;
 
+use crate::changed_amounts::{change_amount, change_lines, up_to_real};
 use crate::changed_days::{change_answer, change_applied, change_refused, day_asked, write_beside};
 use crate::implementation::{Answer, Factors, Implementation, Line, Margin};
 
@@ -22,6 +23,17 @@ pub enum Change {
     NoRowsRefused,
     Premiums,
     PremiumsRefused,
+    LinesInCentavos,
+    PairsInCentavos,
+    LeftInCentavos,
+    LinesDown,
+    LinesNearest,
+    MultiplesRaised,
+    TotalInReais,
+    TotalRoundedOnce,
+    AmountInCentavos,
+    HeldAmountInReais,
+    PremiumsInReais,
     Fa,
     Fb,
     FaOfOneDay,
@@ -49,7 +61,7 @@ pub enum Change {
     ReadingOutside,
 }
 
-pub const CHANGES: [(&str, Change); 40] = [
+pub const CHANGES: [(&str, Change); 51] = [
     ("total", Change::Total),
     ("line-count", Change::LineCount),
     ("line-amount", Change::LineAmount),
@@ -65,6 +77,17 @@ pub const CHANGES: [(&str, Change); 40] = [
     ("no-rows-refused", Change::NoRowsRefused),
     ("premiums", Change::Premiums),
     ("premiums-refused", Change::PremiumsRefused),
+    ("lines-in-centavos", Change::LinesInCentavos),
+    ("pairs-in-centavos", Change::PairsInCentavos),
+    ("left-in-centavos", Change::LeftInCentavos),
+    ("lines-down", Change::LinesDown),
+    ("lines-nearest", Change::LinesNearest),
+    ("multiples-raised", Change::MultiplesRaised),
+    ("total-in-reais", Change::TotalInReais),
+    ("total-rounded-once", Change::TotalRoundedOnce),
+    ("amount-in-centavos", Change::AmountInCentavos),
+    ("held-amount-in-reais", Change::HeldAmountInReais),
+    ("premiums-in-reais", Change::PremiumsInReais),
     ("fa", Change::Fa),
     ("fb", Change::Fb),
     ("fa-of-one-day", Change::FaOfOneDay),
@@ -108,6 +131,7 @@ impl Implementation for Changed<'_> {
         let mut margin = self.of.margin(file, entries, room);
         let lines = margin.lines as usize;
         if margin.refusal == 0 {
+            change_lines(self.change, file, &mut margin, entries);
             change_accepted(self.change, &mut margin, entries);
         } else {
             change_list_refused(self.change, &mut margin, entries, room);
@@ -127,7 +151,7 @@ impl Implementation for Changed<'_> {
         match (self.change, self.of.position_amount(file, row)) {
             (Change::Amount, amount) if amount > 0 => amount - 1,
             (Change::MissingRow, -13) => 0,
-            (_, amount) => amount,
+            (change, amount) => change_amount(change, file, row, amount),
         }
     }
 
@@ -137,6 +161,7 @@ impl Implementation for Changed<'_> {
         match self.change {
             Change::Premiums if answer.value > 0 => Answer { value: answer.value - 1, ..answer },
             Change::PremiumsRefused => Answer { refusal: 0, ..answer },
+            Change::PremiumsInReais => Answer { value: up_to_real(answer.value), ..answer },
             _ => answer,
         }
     }

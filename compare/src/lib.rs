@@ -11,8 +11,10 @@
 //! 7. [`lending`]: the memory in which the library gets a file
 //! 8. [`comparison`]: both answers to each question
 //! 9. [`summary`]: what was compared
-//! 10. [`changes`] and [`changed_days`]: deliberately changed answers, to see that they are found
+//! 10. [`changes`], [`changed_amounts`] and [`changed_days`]: deliberately changed answers, to see that they are
+//!     found
 
+pub mod changed_amounts;
 pub mod changed_days;
 pub mod changes;
 pub mod codes_and_days;

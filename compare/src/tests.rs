@@ -5,14 +5,16 @@ use std::collections::{BTreeMap, BTreeSet};
 use reference::account::{Account, Barrier, Limiter, OptionType, Side};
 use reference::day::{apply_day, Day};
 use reference::lines::margin;
+use reference::position::premium_amount;
 use reference::reader::{distance, read_account};
 
+use crate::changed_amounts::{exact_of_line, Exact};
 use crate::changes::{Change, Changed, CHANGES};
 use crate::codes_and_days::{asked_once, drawn, expectation};
 use crate::comparison::{compare_factors, compare_file, Difference};
 use crate::days::days;
 use crate::files::{file, Family, File, LONGEST_FILE};
-use crate::implementation::{Implementation, Reference};
+use crate::implementation::{Implementation, Line, Reference};
 use crate::lending::Lending;
 use crate::questions::{questions, Question};
 use crate::summary::Summary;
@@ -158,6 +160,50 @@ fn limiters_stand_on_both_sides_of_pairs() {
         assert!(found.remove(limiters) > Some(100), "{limiters}");
     }
     assert_eq!(found, BTreeMap::new());
+}
+
+/// The lines of an accepted file, each with its amount before it is rounded.
+fn exact_lines(account: &Account, bytes: &[u8]) -> Vec<(Line, Exact)> {
+    let mut entries = vec![[0; 5]; account.positions.len()];
+    let lines = Reference.margin(bytes, &mut entries, account.positions.len()).lines;
+    entries.truncate(lines as usize);
+    entries.into_iter().map(|line| (line, exact_of_line(account, &line).1)).collect()
+}
+
+/// How an amount stands to a multiple of 100 centavos.
+fn sort(exact: Exact) -> &'static str {
+    match exact % 100_000_000 {
+        0 if exact == 0 => "nothing",
+        0 => "a multiple",
+        rest if rest % 1_000_000 == 0 => "whole centavos",
+        _ => "a fraction of a centavo",
+    }
+}
+
+/// Often enough for a wrong rounding to show (document 02 [6]).
+#[test]
+fn amounts_and_premiums_are_often_no_multiples_of_100() {
+    let mut found: BTreeMap<(&str, &str), usize> = BTreeMap::new();
+    for file in files_of(Family::Structured, 3_000) {
+        let account = read_account(&file.bytes).expect("accepted");
+        let lines = exact_lines(&account, &file.bytes).into_iter();
+        let lines = lines.map(|(line, exact)| (["pair", "left"][line[0] as usize - 1], exact));
+        let held = (0..account.positions.len()).filter(|r| account.positions[*r].premium > 0);
+        let premium = |row| premium_amount(&account, row) as Exact * 1_000_000;
+        for (of, exact) in lines.chain(held.map(|row| ("premium", premium(row)))) {
+            *found.entry((of, sort(exact))).or_default() += 1;
+        }
+    }
+    // Premiums are whole centavos, and those of 0 are not counted.
+    assert_eq!(found.len(), 4 + 4 + 2);
+    assert!(found.values().all(|count| *count > 20), "{found:?}");
+    for (of, hundredths) in [("pair", 15), ("left", 35), ("premium", 75)] {
+        let count =
+            |sorts: &[&str]| sorts.iter().filter_map(|s| found.get(&(of, *s))).sum::<usize>();
+        let others = count(&["whole centavos", "a fraction of a centavo"]);
+        let all = others + count(&["nothing", "a multiple"]);
+        assert!(100 * others > hundredths * all, "{of}: {others} of {all}");
+    }
 }
 
 #[test]

@@ -8,6 +8,9 @@
 
 pub const MILLION: i64 = 1_000_000;
 
+/// Centavos in a real.
+pub const REAL: i64 = 100;
+
 /// Ticks to fine units: done before ticks meet fine units.
 pub fn fine(ticks: i64) -> i64 {
     ticks * MILLION

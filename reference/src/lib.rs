@@ -12,7 +12,7 @@
 //! 4. [`spread`]: unit spread margin of a pair
 //! 5. [`pairing`]: the repeated choice of pairs
 //! 6. [`lines`]: lines and total
-//! 7. [`output`]: what the margin program prints
+//! 7. [`output`]: what the programs print for a file
 //! 8. [`paths`]: paths and payments, as the document defines them
 //! 9. [`factors`]: fa and fb from the code and the days
 //! 10. [`factors_list`]: what the factors program prints

@@ -2,7 +2,9 @@
 
 use std::cmp::{max, min};
 
-use crate::account::{fine, Account, Barrier, Limiter, OptionType, Series, Side, Terms, MILLION};
+use crate::account::{
+    fine, Account, Barrier, Limiter, OptionType, Series, Side, Terms, MILLION, REAL,
+};
 use crate::reader::read_account;
 
 /// Unit margin of a written position, in fine units: first rule that applies.
@@ -84,17 +86,21 @@ fn written_put(series: &Series, terms: &Terms) -> i64 {
 }
 
 /// Fine units per contract to centavos: unit × M × quantity, divided by
-/// 1,000,000 and rounded up once.
+/// 1,000,000 and rounded up once. Document 02 [6]: "Each line amount, and the
+/// amount for one position, is rounded up to a multiple of 100 centavos instead
+/// of to one centavo."
 pub fn amount(unit: i64, m: i64, quantity: i64) -> i64 {
-    let [unit, m, quantity, million] = [unit, m, quantity, MILLION].map(i128::from);
+    let [unit, m, quantity, million, real] = [unit, m, quantity, MILLION, REAL].map(i128::from);
     let exact = unit * m * quantity;
-    let whole = exact / million;
-    let rounded = if whole * million == exact { whole } else { whole + 1 };
-    rounded as i64
+    // A real, in millionths of a centavo as the product is.
+    let one_real = real * million;
+    let whole = exact / one_real;
+    let reais = if whole * one_real == exact { whole } else { whole + 1 };
+    (reais * real) as i64
 }
 
-/// Premium × M × Q of a held row, exact; 0 for a written row, whose premium
-/// is 0.
+/// Premium × M × Q of a held row; 0 for a written row, whose premium is 0.
+/// Document 02 [6]: "Premiums remain exact, also as a held position's amount."
 pub fn premium_amount(account: &Account, row: usize) -> i64 {
     let position = &account.positions[row];
     position.premium * account.series_of(row).m * position.quantity

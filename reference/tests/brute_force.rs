@@ -24,7 +24,7 @@ fn random_small_accounts() {
         positions: (0, 6),
         pv: (2, 60),
         quantity: (1, 5),
-        m: (1, 3),
+        m: (1, 1_000),
         fb_above_one: true,
     };
     let mut random = Random::new(7);
@@ -163,6 +163,21 @@ fn other_unit_margins_of_a_row_knocked_out_are_found() {
     }
     let violation = found_of_knocked_out(|claim| claim.margin.total -= 1);
     assert!(violation.starts_with("the cover"), "{violation}");
+}
+
+/// PV 3001, fa 1,234,567, PE 3100, Q 10: the worst path takes 30246.77835
+/// centavos. Rounded up to 30300 (document 02 [6]) the total covers it.
+#[test]
+fn an_amount_rounded_down_is_found() {
+    let series = SeriesDraft { pv: 3001, fa: 1_234_567, ..SeriesDraft::checked(CALL) };
+    let draft = Draft::new(vec![series], vec![PositionDraft::plain(0, WRITTEN, 3100, 10)]);
+    let account = read_account(&draft.bytes()).expect("accepted");
+    let mut claim = reference_claim(&account);
+    assert_eq!(claim.margin.total, 30_300);
+    for (total, covers) in [(30_300, true), (30_247, true), (30_246, false), (30_200, false)] {
+        claim.margin.total = total;
+        assert_eq!(check(&account, &claim, 4).is_ok(), covers, "{total}");
+    }
 }
 
 /// Nothing is owed on any path of any series.

@@ -107,6 +107,7 @@ fn pairs_with_down_and_out() {
     assert_eq!(spread(written, higher), (None, false));
 }
 
+/// 30247 in document 01, 30300 since document 02 [6].
 #[test]
 fn rounded_amount() {
     let mut series = SeriesDraft::checked(CALL);
@@ -115,9 +116,9 @@ fn rounded_amount() {
     let row = PositionDraft::plain(0, WRITTEN, 3100, 10);
     let bytes = Draft::new(vec![series], vec![row]).bytes();
     let account = read_account(&bytes).expect("accepted");
-    assert_eq!(position_amount(&account, 0), 30_247);
-    assert_eq!(one_position(&bytes, 0), 30_247);
-    assert_eq!(margin_output(&bytes), "left 0 10 30247\npremium 0\ntotal 30247\n");
+    assert_eq!(position_amount(&account, 0), 30_300);
+    assert_eq!(one_position(&bytes, 0), 30_300);
+    assert_eq!(margin_output(&bytes), "left 0 10 30300\npremium 0\ntotal 30300\n");
 }
 
 #[test]

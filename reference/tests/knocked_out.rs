@@ -49,7 +49,8 @@ fn the_unit_margin_is_the_rebate() {
                     let terms = account.positions[0].terms();
                     let unit = written_unit_margin(&account.series[0], &terms);
                     assert_eq!(unit, fine(i64::from(rebate)));
-                    assert_eq!(margin(&account).total, i64::from(rebate) * 5);
+                    let reais = (i64::from(rebate) * 5 + 99) / 100;
+                    assert_eq!(margin(&account).total, reais * 100);
                 }
             }
         }

@@ -207,10 +207,11 @@ fn the_nearest_allowed() {
         held(3004, Some(3300)),
         held(3003, Some(3301)),
     ];
+    let rows = rows.into_iter().map(|row| PositionDraft { quantity: 20, ..row }).collect();
     let pairs = margin(&account(CALL, rows)).pairs;
     assert_eq!(
         pairs.iter().map(|p| (p.written, p.held, p.amount)).collect::<Vec<_>>(),
-        [(0, 4, 15)]
+        [(0, 4, 300)]
     );
 }
 

@@ -89,7 +89,8 @@ fn held_row_is_its_premium() {
 
 #[test]
 fn rounded_once_not_by_contract() {
-    // A third of a tick a contract, nearly: three contracts are one centavo.
+    // A third of a tick a contract, nearly: three contracts are less than one
+    // centavo, and 100 centavos once rounded up.
     let series = SeriesDraft {
         pv: 1,
         fa: 1_000_000,
@@ -100,7 +101,7 @@ fn rounded_once_not_by_contract() {
         spare: [0; 3],
     };
     let row = PositionDraft::plain(0, WRITTEN, 1, 3);
-    assert_eq!(one_position(&Draft::new(vec![series], vec![row]).bytes(), 0), 1);
+    assert_eq!(one_position(&Draft::new(vec![series], vec![row]).bytes(), 0), 100);
 }
 
 #[test]

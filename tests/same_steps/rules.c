@@ -137,12 +137,12 @@ int64_t spread_margin(const struct series *s, const struct row *w, const struct 
     return reachable ? largest(o, MM_R, mm, r, d) : larger(o, MM_D, mm, d);
 }
 
-/* unit × M × Q, divided by 1,000,000 and rounded up once: the whole ticks and the rest apart, since the product can pass
- * 64 bits. */
+/* unit × M × Q, divided by 1,000,000 and rounded up once, to a multiple of 100 centavos: the whole hundreds of ticks and the
+ * rest apart, since the product can pass 64 bits. */
 uint64_t amount_of(int64_t unit, uint32_t m, uint32_t q)
 {
     uint64_t contracts = (uint64_t)m * q;
-    uint64_t whole = (uint64_t)unit / 1000000, rest = (uint64_t)unit % 1000000;
+    uint64_t whole = (uint64_t)unit / 100000000, rest = (uint64_t)unit % 100000000;
 
-    return whole * contracts + (rest * contracts + 999999) / 1000000;
+    return (whole * contracts + (rest * contracts + 99999999) / 100000000) * 100;
 }

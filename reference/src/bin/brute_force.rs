@@ -12,16 +12,17 @@ use reference::sample::{limited_alike, sample_account, sample_day, some_knocked_
 
 const LONGEST_PATH: usize = 4;
 
+/// With M up to 1,000, so that rounding to reais hides little.
 const SMALL: Shape = Shape {
     series: (1, 2),
     positions: (1, 7),
     pv: (2, 60),
     quantity: (1, 5),
-    m: (1, 3),
+    m: (1, 1_000),
     fb_above_one: false,
 };
-/// Larger numbers, so that rounding to centavos hides less.
-const WIDE: Shape = Shape { pv: (1, 10_000_000), quantity: (1, 100_000), m: (1, 1_000), ..SMALL };
+/// Larger numbers, so that it hides still less.
+const WIDE: Shape = Shape { pv: (1, 10_000_000), quantity: (1, 100_000), ..SMALL };
 /// Cover and least amount are not promised here, contracts and pairs are.
 const HIGH_FB: Shape = Shape { fb_above_one: true, ..SMALL };
 /// No positions: nothing is owed on any path.

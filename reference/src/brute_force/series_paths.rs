@@ -110,7 +110,7 @@ impl<'a> Watch<'a> {
         Ok(())
     }
 
-    /// Sharper than the document asks, since amounts are rounded up: the unit
+    /// Sharper than the document asks, since amounts are rounded up to reais: the unit
     /// spread margin covers one unit of any two rows that pair, whether or not
     /// the pair was made.
     fn spreads_cover(&self, pays: &[i64], path: &[i64]) -> Result<(), String> {

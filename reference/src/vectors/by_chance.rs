@@ -30,6 +30,8 @@ const WIDE: Shape = Shape {
     m: (1, 1_000),
     fb_above_one: true,
 };
+/// Amounts about 100 centavos: pairs and rows left are often less.
+const LEAST: Shape = Shape { positions: (4, 20), quantity: (1, 3), m: (1, 3), ..SMALL };
 /// One series and many rows, for chains of pairs.
 const CROWDED: Shape = Shape { series: (1, 1), positions: (12, 40), ..MIDDLE };
 
@@ -78,6 +80,15 @@ pub fn add_knocked_out_accounts(cases: &mut Cases) {
             let draft = sample_account(&mut random, &shape);
             cases.accept(format!("{name} {number}"), some_knocked_out(&mut random, draft));
         }
+    }
+}
+
+/// Many lines to round up.
+pub fn add_small_amounts(cases: &mut Cases) {
+    cases.begin("random, small amounts");
+    let mut random = Random::new(SEED + 7);
+    for number in 0..24 {
+        cases.accept(number.to_string(), sample_account(&mut random, &LEAST));
     }
 }
 

@@ -23,6 +23,7 @@ pub(crate) mod rows;
 mod ties;
 mod trailer_faults;
 mod two_faults;
+mod whole_reais;
 
 pub(crate) use two_faults::put_fault;
 
@@ -99,6 +100,8 @@ pub fn all_cases() -> Vec<Case> {
         knocked_out::add,
         knocked_out::add_faults,
         by_chance::add_knocked_out_accounts,
+        whole_reais::add,
+        by_chance::add_small_amounts,
     ] {
         add(&mut cases);
     }

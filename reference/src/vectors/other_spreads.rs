@@ -147,8 +147,8 @@ fn a_fine_unit_beside(cases: &mut Cases, type_byte: u8) {
 }
 
 fn small_margins(cases: &mut Cases, type_byte: u8) {
-    // Rebate 200, spread MM of 199.5: rounded to centavos they are equal, but
-    // units are compared.
+    // Rebate 200, spread MM of 199.5: rounded to centavos or reais they are
+    // equal, but units are compared.
     let [far, farther] = far_strikes(type_byte);
     let half = SeriesDraft { f3: 66_500, m: 1, ..SeriesDraft::checked(type_byte) };
     let rows = vec![
