@@ -16,6 +16,10 @@
  * An account file has at most 65,536 bytes. Any bytes may be handed over: a file that is not in order is refused, and
  * nothing is read or written outside it. With length 0 the pointer may be NULL.
  *
+ * Amounts are in centavos, as whole numbers. The margin of a written position by itself and the amount of a line are
+ * rounded up to whole reais, multiples of 100, each by itself and once. Premiums are exact. Before version 0.6.0 margins and
+ * lines were rounded up to one centavo.
+ *
  * A refusal is a number from 1 to 17, below with a name for each; serpentgleam_refusal_sentence gives its sentence. The
  * numbers 3 and 15 are not used. An account without positions is accepted, with no lines, premiums 0 and total 0.
  */
@@ -26,9 +30,9 @@
 #include <stdint.h>
 
 /* The version of this header and of the library that it came with. */
-#define SERPENTGLEAM_VERSION "0.5.0"
+#define SERPENTGLEAM_VERSION "0.6.0"
 #define SERPENTGLEAM_VERSION_MAJOR 0
-#define SERPENTGLEAM_VERSION_MINOR 5
+#define SERPENTGLEAM_VERSION_MINOR 6
 #define SERPENTGLEAM_VERSION_PATCH 0
 
 /* Limits of every account: bytes of its file, series, positions, and lines of its margin. */
@@ -114,14 +118,15 @@ static inline const char *serpentgleam_refusal_sentence(uint64_t number)
  * file, length: the account file's bytes.
  * row: the position row, counted from 0 in the order of the file.
  *
- * Answers the amount, 0 or more: of a written position its margin by itself, of a held one its unsettled premium. Answers
- * minus the refusal's number where the file is refused, or minus SERPENTGLEAM_REFUSED_ROW_ASKED_FOR where the file is
- * accepted and has no such row. The largest amount is 9,999,999,900,000,000.
+ * Answers the amount, 0 or more: of a written position its margin by itself, a multiple of 100, and of a held one its
+ * unsettled premium, exact. Answers minus the refusal's number where the file is refused, or minus
+ * SERPENTGLEAM_REFUSED_ROW_ASKED_FOR where the file is accepted and has no such row. The largest amount is
+ * 9,999,999,900,000,000.
  */
 int64_t serpentgleam_position_amount(const uint8_t *file, size_t length, uint64_t row);
 
 /*
- * A line of an account's margin: five whole numbers.
+ * A line of an account's margin: five whole numbers. The amount is for the line's contracts together, a multiple of 100.
  *
  * SERPENTGLEAM_PAIR:  first = written row, second = held row, third = contracts, fourth = amount in centavos.
  * SERPENTGLEAM_LEFT:  first = row, second = contracts, third = amount in centavos (0 if held), fourth = 0.
@@ -136,8 +141,9 @@ struct serpentgleam_line {
 
 /*
  * A file's margin. refusal is 0 where the file is accepted: then lines is how many lines were written and total the margin
- * in centavos, premiums included. Otherwise refusal is the refusal's number and row the row it was given for, counted from
- * 0 in its own table (0 where it was not given for a row), and lines and total are 0.
+ * in centavos, the amounts of the lines and the premiums added up. The sum is not rounded: with premiums it need not be a
+ * multiple of 100. Otherwise refusal is the refusal's number and row the row it was given for, counted from 0 in its own
+ * table (0 where it was not given for a row), and lines and total are 0.
  */
 struct serpentgleam_result {
     uint64_t refusal;
@@ -155,7 +161,12 @@ struct serpentgleam_result {
  * the account has positions are refused with SERPENTGLEAM_REFUSED_LIST_TOO_SHORT. With room 0, which is enough for an
  * account without positions, the pointer may be NULL.
  *
- * Entries after the last line keep their content, and on a refusal every entry does.
+ * Entries after the last line keep their content, and on a refusal every entry does. The largest amount of a line is
+ * 9,999,999,900,000,000, and the largest total is 2,559,999,974,400,000,000, which a signed number of 64 bits holds.
+ *
+ * Each pair can raise the total, by 100 centavos at most, since its line is rounded by itself. Promised is the cover:
+ * where every fb is at most 1,000,000, the total and what the held rows pay for their contracts in pairs are on every path
+ * at least what the written rows pay.
  */
 struct serpentgleam_result serpentgleam_margin(const uint8_t *file, size_t length, struct serpentgleam_line *lines, size_t room);
 
@@ -171,8 +182,8 @@ struct serpentgleam_answer {
 };
 
 /*
- * The unsettled premiums of all held rows of an account together, in centavos: premium x M x Q of each. They are part of
- * the total that serpentgleam_margin gives.
+ * The unsettled premiums of all held rows of an account together, in centavos: premium x M x Q of each, exact. They are part
+ * of the total that serpentgleam_margin gives.
  *
  * file, length: the account file's bytes.
  */

@@ -1,7 +1,11 @@
-"""The unit margin of a written row, worked out by hand from document 01, One position, and document 02 [5], flag 16."""
+"""The unit margin of a written row and its amount, worked out by hand from document 01, One position, with document 02
+[5], flag 16, and [6], whole reais.
+"""
 from typing import List, NamedTuple, Optional
 
 from .terms import BARRIERS, after_flag_1, fine, shown
+
+REAL = 100  # centavos
 
 
 class Working(NamedTuple):
@@ -88,8 +92,8 @@ def unit_margin(row):
 
 
 def amount(unit, row, quantity):
-    """Unit × M × quantity in centavos, rounded up once, and a line that says so."""
+    """Unit × M × quantity in centavos, rounded up once to whole reais, and a line that says so."""
     exact = unit * row.series.M * quantity
-    centavos = -(-exact // fine(1))
+    centavos = REAL * -(-exact // fine(REAL))
     product = f'{shown(unit)} × {row.series.M} × {quantity} = {shown(exact)}'
-    return centavos, product + (f', rounded up once: {centavos}' if exact % fine(1) else '') 
+    return centavos, product + (f', rounded up once: {centavos}' if exact % fine(REAL) else '')

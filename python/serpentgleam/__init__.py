@@ -8,13 +8,14 @@
     serpentgleam.factors('FCI', 720)                   # fa and fb of a code's row and the days; raises Refused
     serpentgleam.day(data, 0, 3500, 2700, 2900)        # the file's bytes after a series' high, low and close
 
-Amounts are whole centavos, factors whole millionths. Calls may be made from any threads.
+Amounts are in centavos: those of lines and of written rows are whole reais, multiples of 100, and premiums are exact.
+Factors are whole millionths. Calls may be made from any threads.
 """
 from .answers import REASONS, Factors, Left, Margin, Pair, Refusal, Refused
 from .codes import CODES
 from .engine import day, day_or_refusal, factors, factors_or_refusal, margin, margin_or_refusal, position_amount
 from .library import NotFound
 
-__version__ = '0.5.0'
+__version__ = '0.6.0'
 __all__ = ['CODES', 'REASONS', 'Factors', 'Left', 'Margin', 'NotFound', 'Pair', 'Refusal', 'Refused', 'day',
            'day_or_refusal', 'factors', 'factors_or_refusal', 'margin', 'margin_or_refusal', 'position_amount']

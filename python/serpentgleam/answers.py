@@ -22,7 +22,7 @@ NO_SUCH_REFUSAL = 'there is no refusal of this number'
 
 
 class Pair(NamedTuple):
-    """Contracts of a written row that are paired with a held row, and their amount in centavos."""
+    """Contracts of a written row that are paired with a held row, and their amount in centavos, a multiple of 100."""
     written: int
     held: int
     contracts: int
@@ -30,14 +30,14 @@ class Pair(NamedTuple):
 
 
 class Left(NamedTuple):
-    """Contracts of a row that stand in no pair, and their amount in centavos, 0 where the row is held."""
+    """Contracts of a row that stand in no pair, and their amount in centavos, a multiple of 100: 0 if it is held."""
     row: int
     contracts: int
     amount: int
 
 
 class Margin(NamedTuple):
-    """An account's margin: pairs as made, rows left in row order, premiums and total in centavos, these included."""
+    """An account's margin: pairs as made, rows left in row order, premiums in centavos, exact, and the sum of all."""
     pairs: Tuple[Pair, ...]
     left: Tuple[Left, ...]
     premium: int

@@ -77,8 +77,8 @@ def margin(data: bytes) -> Margin:
 
 
 def position_amount(data: bytes, row: int) -> int:
-    """The amount in centavos of one position row, counted from 0: of a written one its margin by itself, of a held one
-    its unsettled premium. Raises Refused where the file is refused or has no such row.
+    """The amount in centavos of one position row, counted from 0: of a written one its margin by itself, a multiple of
+    100, of a held one its unsettled premium, exact. Raises Refused where the file is refused or has no such row.
     """
     data, row = as_bytes(data), operator.index(row)
     if row < 0:
@@ -140,7 +140,7 @@ def day(data: bytes, series: int, high: int, low: int, close: int) -> bytes:
     ...     before = file.read()
     >>> after = day(before, series=0, high=3500, low=2700, close=2900)
     >>> margin(before).total, margin(after).total
-    (97000, 93250)
+    (97000, 93300)
     """
     answer = day_or_refusal(data, series, high, low, close)
     if isinstance(answer, Refusal):

@@ -13,8 +13,9 @@ COMMAND = '''usage: serpentgleam COMMAND ..
   COMMAND --help         what a command takes
   --version
 
-Amounts are whole centavos, factors whole millionths; rows are counted from 0. Status 0: all accepted; 1: something
-refused or faulty; 2: a wrong word, or a file that cannot be read or written.
+Amounts are in centavos: margins are rounded up to whole reais, multiples of 100, and premiums are exact. Factors are
+whole millionths; rows are counted from 0. Status 0: all accepted; 1: something refused or faulty; 2: a wrong word, or a
+file that cannot be read or written.
 '''
 
 CSV_AND_OUTPUT = '''  --csv                  CSV, the first row names the fields
@@ -36,7 +37,9 @@ MARGIN = '''usage: serpentgleam margin [--json | --csv] [-o OUTPUT] [-q] [--from
 
 Prints each line of an answer after its file's name and a tab: as the program margin prints it, and the sentence of a
 refusal after another tab. A summary stands on standard error. A file that cannot be read is named there and has no
-answer; the others are answered. An account without positions has premium 0 and total 0 and no other line.
+answer; the others are answered. An account without positions has premium 0 and total 0 and no other line. Amounts are
+in centavos: that of a pair or of a row left is rounded up to a multiple of 100, premiums are exact, the total is their
+sum.
 
 ''' + NAMES + FORMS + QUIET + '''
 Text     pair WRITTEN-ROW HELD-ROW CONTRACTS AMOUNT, left ROW CONTRACTS AMOUNT, premium AMOUNT, total AMOUNT, or
@@ -51,8 +54,9 @@ Several processes may write to one pipe or file: none writes into another's answ
 
 POSITION = '''usage: serpentgleam position [--json | --csv] [-o OUTPUT] FILE ROW
 
-Prints the file's name, a tab and amount ROW AMOUNT: of a written position its margin by itself, of a held one its
-unsettled premium. Or refused NUMBER ROW, and after a tab why; the number is 13 where there is no such row.
+Prints the file's name, a tab and amount ROW AMOUNT, in centavos: of a written position its margin by itself, rounded up
+to a multiple of 100, of a held one its unsettled premium, exact. Or refused NUMBER ROW, and after a tab why; the number
+is 13 where there is no such row.
 
   FILE                   - is standard input
 ''' + FORMS

@@ -21,6 +21,7 @@ DOCUMENT = os.path.join(TOP, 'examples', 'document.account')
 WRONG_SIDE = os.path.join(TOP, 'examples', 'wrong_side.account')
 BEFORE_THE_DAY = os.path.join(TOP, 'examples', 'before_the_day.account')
 AFTER_THE_DAY = os.path.join(TOP, 'examples', 'after_the_day.account')
+WHOLE_REAIS = os.path.join(TOP, 'examples', 'whole_reais.account')
 SERIES_TEXT = 'series call PV=3000 fa=1.2 fb=0.8 f3=0.05 M=5\n'
 ROOM = 4096  # bytes on a disk that is full after them
 
@@ -75,6 +76,11 @@ def without_positions():
     """Accounts without positions: of one series and of 32, each without a cover sheet and with one that has rows."""
     return [cover + file_from_text((SERIES_TEXT * count).encode())
             for count in (1, 32) for cover in (b'', bytes_of(DOCUMENT)[:-12])]
+
+
+def whole_reais(centavos):
+    """An amount rounded up to a multiple of 100 centavos."""
+    return -(-centavos // 100) * 100
 
 
 def long_account():

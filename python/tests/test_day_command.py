@@ -64,7 +64,7 @@ class Written(unittest.TestCase):
 
     def test_then_margin(self):
         self.assertEqual(command('day', BEFORE_THE_DAY, *DAY, '-o', self.out)[0], 0)
-        self.assertTrue(command('margin', self.out)[1].endswith(b'\ttotal 93250\n'))
+        self.assertTrue(command('margin', self.out)[1].endswith(b'\ttotal 93300\n'))
 
 
 class Refused(unittest.TestCase):

@@ -1,7 +1,7 @@
 """Flag 16, already knocked out: margins, pairs and refusals of such rows, and their word in the text."""
 import unittest
 
-from support import SERIES_TEXT, file_with, row_with
+from support import SERIES_TEXT, file_with, row_with, whole_reais
 
 import serpentgleam
 from serpentgleam import Left, Margin, Pair, Refusal
@@ -33,10 +33,9 @@ class Margins(unittest.TestCase):
                 for limiter in ('', 'PB=3300' if kind == 'call' else 'PB=2900'):
                     for rebate in (0, 1, 149, 150, 151, 10_000_000):
                         row = f'written Q=10 PE=3100 {limiter} {barrier} REB={rebate} knocked-out'
-                        data = account(kind, row)
-                        self.assertEqual(serpentgleam.position_amount(data, 0), rebate * 5 * 10)
-                        self.assertEqual(serpentgleam.margin(data),
-                                         Margin((), (Left(0, 10, rebate * 50),), 0, rebate * 50))
+                        data, amount = account(kind, row), whole_reais(rebate * 5 * 10)
+                        self.assertEqual(serpentgleam.position_amount(data, 0), amount)
+                        self.assertEqual(serpentgleam.margin(data), Margin((), (Left(0, 10, amount),), 0, amount))
 
     def test_before_the_flag(self):
         row = 'written Q=10 PE=3100 up-and-out=3500 REB=40 european'
@@ -79,7 +78,7 @@ class Pairs(unittest.TestCase):
                 'held Q=3 PE=3000 up-and-out=3700 european\nwritten Q=2 PE=3000 down-and-out=2999 REB=7 knocked-out '
                 'european\n')
         self.assertEqual(serpentgleam.margin(file_with(rows)), Margin(
-            (Pair(0, 2, 3, 0),), (Left(0, 7, 17_500), Left(1, 4, 0), Left(3, 2, 70)), 0, 17_570))
+            (Pair(0, 2, 3, 0),), (Left(0, 7, 17_500), Left(1, 4, 0), Left(3, 2, 100)), 0, 17_600))  # 7 x 5 x 2 = 70
 
 
 class Refusals(unittest.TestCase):
@@ -157,7 +156,7 @@ class Text(unittest.TestCase):
         rows = account_of(file_with('written Q=1 PE=3100 up-and-out=3500 REB=2 knocked-out european')).positions * 256
         data = file_of(account_of(file_with(''))._replace(positions=rows))
         self.assertEqual(file_from_text(text_from_file(data)), data)
-        self.assertEqual(serpentgleam.margin(data).total, 256 * 2 * 5)
+        self.assertEqual(serpentgleam.margin(data).total, 256 * whole_reais(2 * 5))
 
 
 if __name__ == '__main__':

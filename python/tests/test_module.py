@@ -93,7 +93,7 @@ class Limiters(unittest.TestCase):
         row = 'PE=3100 PB=3300 down-and-out=2400 REB=60'
         for price, pair in ((3299, None), (3300, 3_000), (3301, 3_000)):
             self.check('call', row, f'PE=3000 PB={price} down-and-out=2300 REB=60', 10_000, pair)
-        self.check('call', row, 'PE=3000 down-and-out=2400 REB=25', 10_000, 1_750)
+        self.check('call', row, 'PE=3000 down-and-out=2400 REB=25', 10_000, 1_800)  # 35 x 5 x 10 = 1,750, rounded up
 
     def test_knock_ins(self):
         row = 'PE=3100 PB=3300 up-and-in=3500 REB=40'

@@ -52,7 +52,7 @@ class RoundTrip(unittest.TestCase):
                 self.assertEqual(file_from_text(text_beside(path)), bytes_of(path))
 
     def test_vectors(self):
-        self.assertEqual(len(VECTORS), 1623)
+        self.assertEqual(len(VECTORS), 1809)
         for data, _ in LAID_OUT:
             self.check(data)
 
