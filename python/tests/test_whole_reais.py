@@ -171,7 +171,7 @@ class Largest(unittest.TestCase):
         self.assertEqual(LARGEST_TOTAL, 256 * LARGEST_AMOUNT)
 
     def test_header(self):
-        for said in (f'The largest amount is {LARGEST_AMOUNT:,}.', f'The largest total is {LARGEST_TOTAL:,}.',
+        for said in (f'The largest amount is {LARGEST_AMOUNT:,}.', f'the largest total is {LARGEST_TOTAL:,},',
                      'Before version 0.6.0 '):
             self.assertIn(said, HEADER)
         self.assertGreaterEqual([int(part) for part in serpentgleam.__version__.split('.')], [0, 6, 0])
