@@ -14,12 +14,12 @@ use borrow.Author.Tests.{le-ltb, lt-ltb}
 use Rattle.lines.proofs.LinesHeld.{lines-more, lines-same}
 use Rattle.lines.specs.LineNumbers.{LineWritten, linesFrom}
 use Rattle.numbers.specs.Lists.{nth}
-use Rattle.lines_and_total.specs.Listing.{Added, RowAsked, RowsAsked, leftAmountAt, leftOf}
+use Rattle.lines_and_total.specs.Listing.{Added, RowAsked, RowsAsked, leftOf}
 use Rattle.pairing.specs.declared.Tally.{Tally}
 use Rattle.rules.proofs.LineLaws.{length-leftLines}
 use Rattle.rules.proofs.Sums.{sumOver-append, sumTo-more}
 use Rattle.rules.specs.File.{Account, accountOf}
-use Rattle.rules.specs.Lines.{leftLine, leftLines, lineAmount, sumOver, sumTo}
+use Rattle.rules.specs.Lines.{leftAmountAt, leftLine, leftLines, lineAmount, sumOver, sumTo}
 use Rattle.rules.specs.declared.Layout.{Layout}
 use Rattle.rules.specs.declared.Line.{Line}
 

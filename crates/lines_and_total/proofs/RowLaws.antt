@@ -11,11 +11,11 @@ use lib.ListN.{length, set}
 use lib.Seq.{getD-set-other, getD-set-same}
 use Rattle.account.specs.Known.{Known}
 use Rattle.numbers.specs.Lists.{nth}
-use Rattle.lines_and_total.specs.Listing.{AmountAsked, ContractsTo, LeftAsked, leftAmountAt, rowPremium}
+use Rattle.lines_and_total.specs.Listing.{AmountAsked, ContractsTo, LeftAsked}
 use Rattle.position.proofs.RowsFit.{at-row, row-fits}
 use Rattle.position.specs.Fits.{RowFits}
 use Rattle.rules.specs.File.{Account, accountOf}
-use Rattle.rules.specs.Lines.{heldPremium, leftAmount}
+use Rattle.rules.specs.Lines.{heldPremium, leftAmount, leftAmountAt, premiumAt}
 use Rattle.rules.specs.OnePosition.{unitMargin}
 use Rattle.rules.specs.Pairs.{available, isWritten}
 use Rattle.rules.specs.declared.Layout.{Layout}
@@ -37,11 +37,11 @@ module _ (b : List ℕ) (l : Layout) (row : ℕ) (s : Series) (p : Position) (ep
         q-most = ask .q-most;
       }
 
-  pub premium-is : heldPremium (p .side) s p ≡ rowPremium (accountOf b l) row
-  premium-is = at-row (λ s p. heldPremium (p .side) s p ≡ rowPremium (accountOf b l) row) (accountOf b l) row s p ep es refl
+  pub premium-is : heldPremium (p .side) s p ≡ premiumAt (accountOf b l) row
+  premium-is = at-row (λ s p. heldPremium (p .side) s p ≡ premiumAt (accountOf b l) row) (accountOf b l) row s p ep es refl
 
   -- A row without a premium, whichever its side.
-  pub no-premium : p .premium ≡ 0 → 0 ≡ rowPremium (accountOf b l) row
+  pub no-premium : p .premium ≡ 0 → 0 ≡ premiumAt (accountOf b l) row
   no-premium e = by-side (p .side) ∙ premium-is
     where
       by-side : (side : Side) → 0 ≡ heldPremium side s p

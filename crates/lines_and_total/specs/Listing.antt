@@ -13,7 +13,7 @@ use Rattle.lines.specs.LineNumbers.{linesFrom, mostNumbers}
 use Rattle.pairing.specs.declared.Tally.{Tally}
 use Rattle.position.specs.Fits.{RowFits}
 use Rattle.rules.specs.File.{Account, accountOf, seriesOfRow}
-use Rattle.rules.specs.Lines.{heldPremium, leftAmount, leftLine, lineAmount, lines, mostLines, sumOver, sumTo}
+use Rattle.rules.specs.Lines.{leftLine, lineAmount, lines, mostLines, sumOver, sumTo}
 use Rattle.rules.specs.OnePosition.{unitMargin}
 use Rattle.rules.specs.Pairs.{available, isWritten}
 use Rattle.rules.specs.declared.Layout.{Layout}
@@ -24,14 +24,6 @@ use Rattle.rules.specs.declared.Series.{Series}
 -- The first n numbers are the contracts of rows 0 to n - 1.
 abbrev pub ContractsTo : Account → List ℕ → ℕ → Type 0
 ContractsTo a left n = (r : ℕ) → r < n → nth left r ≡ available a r
-
--- The premium of row r, 0 for a written one.
-abbrev pub rowPremium : Account → ℕ → ℕ
-rowPremium a r = heldPremium (a .positionAt r .side) (seriesOfRow a r) (a .positionAt r)
-
--- The amount of q contracts left in row r.
-abbrev pub leftAmountAt : Account → ℕ → ℕ → ℕ
-leftAmountAt a r q = leftAmount (a .positionAt r .side) (seriesOfRow a r) (a .positionAt r) q
 
 -- The line of row r, where it has contracts left.
 abbrev pub leftOf : Account → (ℕ → ℕ) → ℕ → List Line

@@ -13,9 +13,9 @@ use rules::Side;
 ghost use Prim.Native.Nat.{_+_, _≤_};
 ghost use mathlib.Core.Path.{_≡_};
 ghost use Rattle.numbers.specs.Lists.{nth};
-ghost use Rattle.lines_and_total.specs.Listing.{Added, AmountAsked, LeftAsked, RowAsked, RowsAsked, leftAmountAt, leftOf};
+ghost use Rattle.lines_and_total.specs.Listing.{Added, AmountAsked, LeftAsked, RowAsked, RowsAsked, leftOf};
 ghost use Rattle.rules.specs.File.{accountOf};
-ghost use Rattle.rules.specs.Lines.{leftAmount, leftLines};
+ghost use Rattle.rules.specs.Lines.{leftAmount, leftAmountAt, leftLines};
 
 // The amount of q contracts left: a written position's margin, of this unit, 0 for a held one.
 fn left_by_side(s: Series, p: Position, unit: u64, q: u64) -> u64

@@ -9,11 +9,10 @@ use rules::Side;
 ghost use Prim.Native.Nat.{_*_, _≤_, _<_};
 ghost use mathlib.Core.Path.{_≡_};
 ghost use Rattle.account.specs.Known.{Known};
-ghost use Rattle.lines_and_total.specs.Listing.{rowPremium};
 ghost use Rattle.position.specs.Fits.{RowFits};
 ghost use Rattle.rules.specs.File.{accountOf};
 ghost use Rattle.rules.specs.Limits.{mostPositions};
-ghost use Rattle.rules.specs.Lines.{heldPremium, premiums};
+ghost use Rattle.rules.specs.Lines.{heldPremium, premiumAt, premiums};
 
 // A held position's premium, 0 for a written one.
 fn held_premium(s: Series, p: Position) -> u64
@@ -30,7 +29,7 @@ fn held_premium(s: Series, p: Position) -> u64
 // The premium of a row of an accepted file. Most rows have none; then the row's series is not read.
 fn row_premium(file: &[u8], l: Layout, row: usize) -> u64
     requires { ⌜ Known (now file) l × (row < l .positions) ⌝ }
-    ensures { λ r. ⌜ (r ≡ rowPremium (accountOf (now (file .entry)) l) row) × (r ≤ 1_000_000_000_000_000) ⌝ }
+    ensures { λ r. ⌜ (r ≡ premiumAt (accountOf (now (file .entry)) l) row) × (r ≤ 1_000_000_000_000_000) ⌝ }
 {
     let p = position_at(file, l, row);
     if p.premium == 0 {

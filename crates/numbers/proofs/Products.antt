@@ -1,4 +1,4 @@
--- Products: two numbers of 32 bits make one of 64, and a product divided by a hundred millions, part by part.
+-- Products: two numbers of 32 bits make one of 64, and a product divided by a hundred million, part by part.
 -- Assumes nothing.
 use Prim.Native.Nat.{ℕ, _+_, _*_, _/_, _%_, _^_, _≤_, _<_}
 use mathlib.Core.Path.{_≡_, ap}

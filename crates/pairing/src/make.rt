@@ -13,7 +13,7 @@ ghost use Rattle.pairing.specs.Pairing.{PairAsked, PairWritten};
 ghost use Rattle.rules.specs.File.{accountOf, seriesOfRow};
 ghost use Rattle.rules.specs.OnePosition.{amountOf};
 
-// The amount of q contracts of row w at this unit: unit × M × q.
+// The amount of q contracts of row w at this unit: unit × M × q, rounded up once.
 fn pair_amount(file: &[u8], l: Layout, w: usize, unit: u64, q: u64) -> u64
     requires { ⌜ Known (now file) l × (w < l .positions) × (unit ≤ 100_000_000_000_000) × (q ≤ 100_000) ⌝ }
     ensures { λ r. ⌜ (r ≡ amountOf unit (seriesOfRow (accountOf (now (file .entry)) l) w .m) q) × (r ≤ 10_000_000_000_000_000) ⌝ }

@@ -9,11 +9,11 @@ use native.Mathlib.Nat.{mul-le-mul-right}
 use native.Mathlib.Omega.{arith}
 use Rattle.rules.proofs.LineLaws.{amounts, brought, lines-are, total-is}
 use Rattle.rules.proofs.MayPair.{apart, may-pairable}
-use Rattle.rules.proofs.Reais.{in-reais}
 use Rattle.rules.proofs.Sums.{each-map, sumOver-add, sumOver-most, sumOver-scale, sumTo-most, sumTo-same, sumTo-scale}
 use Rattle.rules.proofs.Weights.{Sound, made-sound, weighed}
+use Rattle.rules.proofs.WholeReais.{rounded-to-reais}
 use Rattle.rules.specs.File.{Account, seriesOfRow}
-use Rattle.rules.specs.Lines.{leftAmount, linesAfter, spreadAmount, spreadUnit, sumOver, sumTo, totalAfter}
+use Rattle.rules.specs.Lines.{leftAmount, leftAmountAt, linesAfter, spreadAmount, spreadUnit, sumOver, sumTo, totalAfter}
 use Rattle.rules.specs.OnePosition.{amountOf, unitMargin}
 use Rattle.rules.specs.Pairs.{Made, available, bookOf, contractsAfter, mayOf, pairsAfter}
 use Rattle.rules.specs.Promises.{Cover, OnePathEach, lineBringsIn, rowPayment, rowPaysOut, writtenPayOut}
@@ -41,7 +41,7 @@ PairsCovered a =
     → rowPayment a path w ≤ u + rowPayment a path h
 
 -- What one contract of a row pays out.
-abbrev pub paysEach : Side → ℕ → ℕ → ℕ
+abbrev paysEach : Side → ℕ → ℕ → ℕ
 paysEach Held pays m = 0
 paysEach Written pays m = pays * m
 
@@ -55,14 +55,14 @@ row-covered : (x : Side) (s : Series) (p : Position) (pays q : ℕ)
 row-covered Held s p pays q c = omega arith
 row-covered Written s p pays q c =
     omega
-    (arith, in-reais (unitMargin s p * s .m * q) .not-below, mul-le-mul-right q (mul-le-mul-right (s .m) (c refl)))
+    (arith, rounded-to-reais (unitMargin s p * s .m * q) .not-below, mul-le-mul-right q (mul-le-mul-right (s .m) (c refl)))
 
 -- A pair's line, with what its held row brings in, covers what its written row pays out.
 pair-covered : (x y : Side) (spread : Spread) (u paysw paysh mw mh q : ℕ)
     → x ≡ Written → y ≡ Held → spread ≡ Margin u → mh ≡ mw → paysw ≤ u + paysh
     → (paysEach x paysw mw + paysEach y paysh mh) * q ≤ 1_000_000 * amountOf (spreadUnit spread) mw q + paysh * mh * q
 pair-covered x y spread u paysw paysh mw mh q ex ey es em l =
-    rw (ex, ey, es, em) (omega (arith, in-reais (u * mw * q) .not-below, mul-le-mul-right q (mul-le-mul-right mw l)))
+    rw (ex, ey, es, em) (omega (arith, rounded-to-reais (u * mw * q) .not-below, mul-le-mul-right q (mul-le-mul-right mw l)))
 
 module _ (a : Account) (n : ℕ) (path : ℕ → List ℕ) (each : OnePathEach a path) where
   abbrev payEach : ℕ → ℕ
@@ -103,7 +103,7 @@ module _ (a : Account) (n : ℕ) (path : ℕ → List ℕ) (each : OnePathEach a
   -- What the left lines cover.
   rows-covered : RowsCovered a
       → sumTo (λ r. payEach r * contractsAfter a n r) (a .positions)
-      ≤ 1_000_000 * sumTo (λ r. leftAmount (a .positionAt r .side) (seriesOfRow a r) (a .positionAt r) (contractsAfter a n r)) (a .positions)
+      ≤ 1_000_000 * sumTo (λ r. leftAmountAt a r (contractsAfter a n r)) (a .positions)
   rows-covered c =
       omega (
         arith,
@@ -113,7 +113,7 @@ module _ (a : Account) (n : ℕ) (path : ℕ → List ℕ) (each : OnePathEach a
       )
     where
       amount : ℕ → ℕ
-      amount r = leftAmount (a .positionAt r .side) (seriesOfRow a r) (a .positionAt r) (contractsAfter a n r)
+      amount r = leftAmountAt a r (contractsAfter a n r)
 
   pub covered-after : RowsCovered a → PairsCovered a
       → writtenPayOut a path ≤ totalAfter a n * 1_000_000 + sumOver (lineBringsIn a path) (linesAfter a n)

@@ -24,7 +24,7 @@ use Rattle.rules.specs.declared.Series.{Series}
 use Rattle.rules.specs.declared.SeriesRow.{SeriesRow}
 use Rattle.rules.specs.declared.Terms.{Terms}
 
--- No unit margin is above n where MM, REB, PE and what the limit in force of a call is above PE are not.
+-- No unit margin is above n where MM, REB, PE and the difference of a call's limit in force and PE are not.
 module _ (n : ℕ) (s : Series) (p : Terms) (mm : minimum s ≤ n) (reb : rebate p ≤ n) (pe : fine (p .pe) ≤ n) (pb : limitOr (p .limiter) (high s) ≤ n + fine (p .pe)) where
   charge-most : (k : OptionType) (x : ℕ) → charge k s p x ≤ n
   charge-most Call x = omega arith

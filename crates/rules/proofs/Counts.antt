@@ -11,7 +11,7 @@ use lib.ListN.{length, take, length-append}
 use borrow.Author.Tests.{eq-eqb, ltb-false, ltb-true}
 use Rattle.rules.proofs.Rounds.{left-ended, made-ended, made-first, made-full}
 use Rattle.rules.proofs.Search.{Allowed, choice-allowed, choice-none}
-use Rattle.rules.proofs.Sums.{sumTo-less, sumTo-ones, sumTo-two}
+use Rattle.rules.proofs.Sums.{sumTo-less, sumTo-two, sumTo-under}
 use Rattle.rules.proofs.Weights.{Apart}
 use Rattle.rules.specs.Lines.{sumTo}
 use Rattle.rules.specs.Pairs.{Book, allowed, choice, leftAfter, madeAfter, madeBy, taken}
@@ -42,7 +42,7 @@ module _ (left : ℕ → ℕ) where
 module _ (k : Book) (left : ℕ → ℕ) where
   pub open-most : openRows k left ≤ k .rows
   unfolding openRows
-  open-most = sumTo-ones _ (k .rows) (λ r l. omega arith)
+  open-most = omega (arith, sumTo-under (λ r. min 1 (left r)) 1 (k .rows) (λ r l. omega arith))
 
   pub open-falls : {w h : ℕ} → choice k left ≡ Pair w h → openRows k (taken left (Pair w h)) < openRows k left
   unfolding openRows

@@ -19,12 +19,11 @@ use Rattle.rules.proofs.Sums.{sumTo-none}
 use Rattle.rules.proofs.Tests.{both-fail}
 use Rattle.rules.proofs.Weights.{Sound, made-sound}
 use Rattle.rules.specs.File.{Account, accountOf, layout, positionRow, seriesRow}
-use Rattle.rules.specs.Lines.{lines, sumOver}
+use Rattle.rules.specs.Lines.{Each, lines, sumOver}
 use Rattle.rules.specs.Limits.{FileWithin}
 use Rattle.rules.specs.Pairs.{Made, available, bookOf, contractsAfter, pairsAfter}
 use Rattle.rules.specs.Promises.{KnockedOutDemand, KnockedOutRows, pairNames, pairQuantity}
 use Rattle.rules.specs.Quantities.{fine}
-use Rattle.rules.specs.Reais.{Each}
 
 -- A row with flag 16 stands in no pair that is made, so that no pair line names it or has contracts of it.
 module _ (a : Account) (r : ℕ) (out : a .positionAt r .flags .knockedOut ≡ true) where

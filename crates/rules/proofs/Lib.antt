@@ -37,14 +37,14 @@ pub mod Weights
 pub mod Counts
 pub mod MayPair
 pub mod LineLaws
-pub mod Reais
-pub mod Raised
 pub mod PairPromises
 pub mod AccountCover
 pub mod PairingExample
 -- Bounds for the code.
 pub mod Bounds
--- The largest amounts.
+-- Whole reais (document 02 [6]): the rounding, what pairs can add, the largest amounts.
+pub mod WholeReais
+pub mod Raised
 pub mod Most
 -- Demand 3, and rows with flag 16.
 pub mod Demand3

@@ -1,5 +1,5 @@
--- Document 01, Pairs: sums over pair lines followed by left lines, whatever the pairs, the contracts left and the rows;
--- and how many lines an account has after n rounds, for every n.
+-- Document 01, Pairs: sums over pair lines followed by left lines, and what holds of each of them, whatever the pairs, the
+-- contracts left and the rows; and how many lines an account has after n rounds, for every n.
 -- Assumes nothing.
 use Prim.Native.Nat.{ℕ, zero, suc, _+_, _*_, _≤_, _<_, min}
 use mathlib.Core.Bool.{Bool, true, false, cond}
@@ -13,10 +13,9 @@ use Rattle.rules.proofs.Counts.{bound, openRows}
 use Rattle.rules.proofs.Rounds.{named}
 use Rattle.rules.proofs.Sums.{each-append, sumOver-append, sumOver-none, sumTo-none, sumTo-only, sumTo-same}
 use Rattle.rules.specs.File.{Account, seriesOfRow}
-use Rattle.rules.specs.Lines.{leftAmount, leftLine, leftLines, lineAmount, lines, linesAfter, pairLine, pairLines, spreadAmount, sumOver, sumTo, total, totalAfter}
+use Rattle.rules.specs.Lines.{Each, leftAmount, leftAmountAt, leftLine, leftLines, lineAmount, lines, linesAfter, pairLine, pairLines, spreadAmount, sumOver, sumTo, total, totalAfter}
 use Rattle.rules.specs.Pairs.{Made, available, bookOf, contractsAfter, pairsAfter}
 use Rattle.rules.specs.Promises.{lineBringsIn, leftQuantity, pairQuantity, rowPayment}
-use Rattle.rules.specs.Reais.{Each}
 use Rattle.rules.specs.declared.Line.{Line}
 use Rattle.rules.specs.declared.Position.{Position}
 use Rattle.rules.specs.declared.Series.{Series}
@@ -110,7 +109,7 @@ module _ (a : Account) (l : List Made) (left : ℕ → ℕ) (n : ℕ) where
 
   -- The amounts of the lines: each pair's, and each written row's for what is left of it.
   pub amounts : sumOver lineAmount (pairLines a l ++ leftLines a left n)
-      ≡ sumOver (spreadAmount a) l + sumTo (λ r. leftAmount (a .positionAt r .side) (seriesOfRow a r) (a .positionAt r) (left r)) n
+      ≡ sumOver (spreadAmount a) l + sumTo (λ r. leftAmountAt a r (left r)) n
   amounts =
       sum-lines a lineAmount l left n
       ∙ ap (λ x. sumOver (spreadAmount a) l + x)

@@ -1,6 +1,6 @@
--- A second table of computed values, one theorem: at least one value for each rule of document 01 that its starred values
--- leave free, so that a definition changed by mistake contradicts one of them. Its parts are the types of MarginTables,
--- SpreadTables, FileTables and ReaisTables.
+-- A second table of computed values, one theorem: at least one value for each rule of documents 01 and 02 that the starred
+-- values leave free, so that a definition changed by mistake contradicts one of them. Its parts are the types of
+-- MarginTables, SpreadTables, FileTables and ReaisTables.
 -- Assumes nothing.
 use mathlib.Core.Path.{refl}
 use native.Mathlib.Omega.{arith}
@@ -15,14 +15,14 @@ use Rattle.rules.specs.Spreads.{unitSpread}
 use Rattle.rules.proofs.MarginTables.{UnitMargins, InBarrierMargins, KnockedOut, OutBarrierMargins, Payments, ThreePrices}
 use Rattle.rules.proofs.SpreadTables.{SameRowSpreads, LimitedSpreads, PlainSpreads, CoveringOutSpreads, OtherOutSpreads, Pairing}
 use Rattle.rules.proofs.FileTables.{Answers, Fields, FlagBits, Numbers, Sizes}
-use Rattle.rules.proofs.ReaisTables.{Largest, Raised, Roundings}
+use Rattle.rules.proofs.ReaisTables.{ExactPremiums, Largest, PairRaises, Roundings}
 
 pub rule-values :
     UnitMargins × InBarrierMargins × OutBarrierMargins
     × SameRowSpreads × LimitedSpreads × PlainSpreads × CoveringOutSpreads × OtherOutSpreads × Pairing
     × Fields × FlagBits × Sizes × Numbers × Answers
     × Payments × ThreePrices × KnockedOut
-    × Roundings × Raised × Largest
+    × Roundings × PairRaises × ExactPremiums × Largest
 unfolding unitMargin unitSpread marginText linesText pairText leftText totalsText refusedText decimalIn marginAnswer linesGiven lines leftLines pairLines leftAfter madeAfter through along mayOf gapOf premiums total sumTo sumOver meaning fileRead layout seriesRow positionRow seriesRows positionRows rows trailerFault seriesRowFault positionRowFault matchedFault refuse amountAnswer positionAmount premiumAnswer payment
 rule-values = (
   (refl, refl, refl, refl, refl, refl, refl, refl, refl),
@@ -43,6 +43,7 @@ rule-values = (
   omega arith,
   (refl, refl, refl, refl, refl, refl, refl),
   (refl, refl, refl, refl, refl),
-  (refl, refl, refl, refl, refl, refl, refl),
+  (refl, refl, refl, refl),
+  (refl, refl, refl, refl),
   (refl, refl),
 )

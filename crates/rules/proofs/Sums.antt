@@ -7,8 +7,7 @@ use mathlib.Core.Path.{_≡_, refl, sym, ap, _∙_}
 use native.Mathlib.Nat.{eq-or-lt-of-le, le-of-suc-le-suc}
 use native.Mathlib.Numerals.{add-one}
 use native.Mathlib.Omega.{arith}
-use Rattle.rules.specs.Lines.{sumOver, sumTo}
-use Rattle.rules.specs.Reais.{Each}
+use Rattle.rules.specs.Lines.{Each, sumOver, sumTo}
 
 module _ {A : Type 0} where
   pub each-append : (P : A → Type 0) (l m : List A) → Each P l → Each P m → Each P (l ++ m)
@@ -103,11 +102,16 @@ unfolding sumTo
 sumTo-none f zero e = refl
 sumTo-none f (suc n) e = omega (arith, sumTo-none f n (λ r l. e r (omega arith)), e n (omega arith))
 
+pub sumTo-alike : (c n : ℕ) → sumTo (λ r. c) n ≡ c * n
+unfolding sumTo
+sumTo-alike c zero = omega arith
+sumTo-alike c (suc n) = omega (arith, sumTo-alike c n)
+
 module _ (f : ℕ → ℕ) where
-  pub sumTo-ones : (n : ℕ) → ((r : ℕ) → r < n → f r ≤ 1) → sumTo f n ≤ n
+  pub sumTo-under : (c n : ℕ) → ((r : ℕ) → r < n → f r ≤ c) → sumTo f n ≤ c * n
   unfolding sumTo
-  sumTo-ones zero e = omega arith
-  sumTo-ones (suc n) e = omega (arith, sumTo-ones n (λ r l. e r (omega arith)), e n (omega arith))
+  sumTo-under c zero e = omega arith
+  sumTo-under c (suc n) e = omega (arith, sumTo-under c n (λ r l. e r (omega arith)), e n (omega arith))
 
   pub sumTo-scale : (c n : ℕ) → sumTo (λ r. c * f r) n ≡ c * sumTo f n
   unfolding sumTo

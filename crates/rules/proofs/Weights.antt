@@ -13,9 +13,8 @@ use borrow.Author.Tests.{eq-eqb, eqb-true, ne-eqb}
 use Rattle.rules.proofs.Rounds.{made-left, named}
 use Rattle.rules.proofs.Search.{choice-allowed}
 use Rattle.rules.proofs.Sums.{each-append, each-map, sumOver-same, sumOver-scale, sumTo-add, sumTo-only, sumTo-same, sumTo-sumOver}
-use Rattle.rules.specs.Lines.{sumOver, sumTo}
+use Rattle.rules.specs.Lines.{Each, sumOver, sumTo}
 use Rattle.rules.specs.Pairs.{Book, Made, choice, leftAfter, madeAfter, madeBy}
-use Rattle.rules.specs.Reais.{Each}
 use Rattle.rules.specs.declared.Choice.{Choice}
 use Rattle.rules.specs.declared.Choice.the-variants.{Pair, NoPair}
 

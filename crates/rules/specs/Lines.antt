@@ -34,6 +34,11 @@ unfoldable pub sumOver : {A : Type 0} → (A → ℕ) → List A → ℕ
 sumOver f [] = 0
 sumOver f (x ∷ l) = f x + sumOver f l
 
+-- P holds of each element of a list.
+abbrev pub Each : {A : Type 0} → (A → Type 0) → List A → Type 0
+Each P [] = Unit {0}
+Each P (x ∷ l) = P x × Each P l
+
 -- "A spread amount is unit × M × quantity, rounded as above". A barred pair is never made.
 abbrev pub spreadUnit : Spread → ℕ
 spreadUnit Barred = 0
@@ -66,6 +71,10 @@ abbrev pub leftAmount : Side → Series → Position → ℕ → ℕ
 leftAmount Held s p quantity = 0
 leftAmount Written s p quantity = amountOf (unitMargin s p) (s .m) quantity
 
+-- The same of row r.
+abbrev pub leftAmountAt : Account → ℕ → ℕ → ℕ
+leftAmountAt a r quantity = leftAmount (a .positionAt r .side) (seriesOfRow a r) (a .positionAt r) quantity
+
 -- "2 for a row left .. a left entry's fifth number is 0"
 abbrev pub leftLine : Account → ℕ → ℕ → Line
 leftLine a r quantity =
@@ -73,7 +82,7 @@ leftLine a r quantity =
       kind = 2;
       secondNumber = r;
       thirdNumber = quantity;
-      fourthNumber = leftAmount (a .positionAt r .side) (seriesOfRow a r) (a .positionAt r) quantity;
+      fourthNumber = leftAmountAt a r quantity;
       fifthNumber = 0;
     }
 
@@ -104,8 +113,12 @@ abbrev pub heldPremium : Side → Series → Position → ℕ
 heldPremium Held s p = premiumOf s p
 heldPremium Written s p = 0
 
+-- The same of row r.
+abbrev pub premiumAt : Account → ℕ → ℕ
+premiumAt a r = heldPremium (a .positionAt r .side) (seriesOfRow a r) (a .positionAt r)
+
 unfoldable pub premiums : Account → ℕ
-premiums a = sumTo (λ r. heldPremium (a .positionAt r .side) (seriesOfRow a r) (a .positionAt r)) (a .positions)
+premiums a = sumTo (λ r. premiumAt a r) (a .positions)
 
 -- A file's premiums by themselves: those of its account, or its refusal.
 abbrev pub premiumsOf : List ℕ → FileRead → AmountAnswer

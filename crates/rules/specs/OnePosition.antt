@@ -108,8 +108,8 @@ unitByFlag16 false s t = unitBy (s .option) (t .barrier) s t
 unfoldable pub unitMargin : Series → Position → ℕ
 unitMargin s p = unitByFlag16 (p .flags .knockedOut) s (normal p)
 
--- The one rounding: "rounded up to a multiple of 100 centavos instead of to one centavo" (document 02 [6]). x is fine units times
--- M and contracts, of which a centavo has 1,000,000 and 100 centavos 100,000,000.
+-- The one rounding: "rounded up to a multiple of 100 centavos instead of to one centavo" (document 02 [6]). x is fine
+-- units times M and contracts, of which a centavo has 1,000,000 and 100 centavos have 100,000,000.
 abbrev pub roundedUp : ℕ → ℕ
 roundedUp x = (x + 99_999_999) / 100_000_000 * 100
 

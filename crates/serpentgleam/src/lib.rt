@@ -140,8 +140,8 @@ pub extern "C" fn serpentgleam_margin(file: &[u8], lines: &mut [Line]) -> Margin
     numbers_of(answer)
 }
 
-// The amount in centavos of position row `row` of the file, or minus document 01's refusal number. Any bytes and any
-// row may be handed over.
+// The amount in centavos of position row `row` of the file, a multiple of 100 where the row is written and the exact premium
+// where it is held, or minus document 01's refusal number. Any bytes and any row may be handed over.
 #[no_mangle]
 pub extern "C" fn serpentgleam_position_amount(file: &[u8], row: u64) -> i64
     ensures { λ r. ⌜ r ≡ signedAnswer (amountAnswer (now (file .entry)) row) ⌝ }
@@ -149,7 +149,7 @@ pub extern "C" fn serpentgleam_position_amount(file: &[u8], row: u64) -> i64
     signed(amount_for_row(file, row))
 }
 
-// The unsettled premiums of all held rows of the file, in centavos, or its refusal. Any bytes may be handed over.
+// The unsettled premiums of all held rows of the file, in centavos and exact, or its refusal. Any bytes may be handed over.
 #[no_mangle]
 pub extern "C" fn serpentgleam_premiums(file: &[u8]) -> Answer
     ensures { λ r. ⌜ r ≡ answerNumbers (premiumAnswer (now (file .entry))) ⌝ }
