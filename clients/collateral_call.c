@@ -1,9 +1,9 @@
 /*
  * The collateral call's question: the lines, the premiums and the total of an account file.
  *
- * collateral_call FILE    prints a line for each pair and each row left, the premiums and the total, all amounts in
- *                         centavos; or the refusal. Exit status 0 with a total, 1 with a refusal, 2 where the file cannot
- *                         be read.
+ * collateral_call FILE    prints a line for each pair and each row left, in multiples of 100 centavos, the premiums and the
+ *                         total in centavos; or the refusal. Exit status 0 with a total, 1 with a refusal, 2 where the file
+ *                         cannot be read.
  */
 #include "account_file.h"
 #include "serpentgleam.h"

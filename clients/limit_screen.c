@@ -1,8 +1,9 @@
 /*
  * The limit screen's question: the amount of one position of an account file.
  *
- * limit_screen FILE ROW    prints the amount in centavos, or why there is none. Exit status 0 with an amount, 1 with a
- *                          refusal, 2 where the file cannot be read or the words are wrong.
+ * limit_screen FILE ROW    prints the amount in centavos, a multiple of 100 if the row is written, or why there is none.
+ *                          Exit status 0 with an amount, 1 with a refusal, 2 where the file cannot be read or the words
+ *                          are wrong.
  */
 #include "account_file.h"
 #include "serpentgleam.h"

@@ -17,8 +17,9 @@
  * nothing is read or written outside it. With length 0 the pointer may be NULL.
  *
  * Amounts are in centavos, as whole numbers. The margin of a written position by itself and the amount of a line are
- * rounded up to whole reais, multiples of 100, each by itself and once. Premiums are exact. Before version 0.6.0 margins and
- * lines were rounded up to one centavo.
+ * rounded up to whole reais, multiples of 100, each by itself and once. Premiums are exact. Before version 0.6.0 they were
+ * rounded up to one centavo: with the same calls, structs and shared object's name, the amount of a line or of a written
+ * position is now 0 to 99 centavos more. Which library is installed is said by `pkg-config --modversion serpentgleam`.
  *
  * A refusal is a number from 1 to 17, below with a name for each; serpentgleam_refusal_sentence gives its sentence. The
  * numbers 3 and 15 are not used. An account without positions is accepted, with no lines, premiums 0 and total 0.
@@ -164,9 +165,10 @@ struct serpentgleam_result {
  * Entries after the last line keep their content, and on a refusal every entry does. The largest amount of a line is
  * 9,999,999,900,000,000, and the largest total is 2,559,999,974,400,000,000, which a signed number of 64 bits holds.
  *
- * Each pair can raise the total, by 100 centavos at most, since its line is rounded by itself. Promised is the cover:
- * where every fb is at most 1,000,000, the total and what the held rows pay for their contracts in pairs are on every path
- * at least what the written rows pay.
+ * A pair can raise the total, by at most 100 centavos, since its line and that of the contracts left are each rounded by
+ * itself. A further row can change which pairs are made, and the total by more. Promised is the cover: where every fb is at
+ * most 1,000,000, the total and what the held rows pay for their contracts in pairs are on every path at least what the
+ * written rows pay.
  */
 struct serpentgleam_result serpentgleam_margin(const uint8_t *file, size_t length, struct serpentgleam_line *lines, size_t room);
 

@@ -4,7 +4,7 @@ misreadings.py.
 POSITION = 'position.rs'
 HELD = 'Side::Held => premium_amount(account, row),'
 WRITTEN = 'amount(unit, series.m, position.quantity)'
-IN_CENTAVOS = '((i128::from(unit) * i128::from(series.m * position.quantity) + 999_999) / 1_000_000) as i64'
+IN_CENTAVOS = f'((exact_{WRITTEN} + 999_999) / 1_000_000) as i64'
 
 
 def of_held_row(amount):

@@ -9,12 +9,12 @@ CALL_OUT_UP = 'Barrier::UpAndOut(ou) if h < fine(ou) => max(mm, payoff(h)),'
 PUT_OUT_DOWN = 'Barrier::DownAndOut(od) if l > fine(od) => max(mm, payoff(l)),'
 PUT_OUT_UP = 'Barrier::UpAndOut(ou) if h < fine(ou) => max(mm, payoff(l)),'
 OUT = [CALL_OUT_DOWN, CALL_OUT_UP, PUT_OUT_DOWN, PUT_OUT_UP]
-EXACT = 'let exact = unit * m * quantity;'
+EXACT = '    unit * m * quantity\n'
 NO_REMAINDER = 'if whole * one_real == exact {'
-AMOUNT = 'pub fn amount(unit: i64, m: i64, quantity: i64) -> i64 {'
-UP_TO = '''fn up_to(number: i128, step: i128) -> i128 {
-    (number + step - 1) / step * step
-}
+UP_TO = '''    let up_to = |number: i128, step: i64| {
+        let step = i128::from(step);
+        (number + step - 1) / step * step
+    };
 '''
 KNOCKED_IN = 'barrier: Barrier::None, rebate: 0, ..of_row }'
 
@@ -63,9 +63,9 @@ TABLE = [
         (POSITION, NO_REMAINDER, 'if exact - whole * one_real < one_real / 2 {')]),
     ('rounded up always', 'a multiple of 100 above 0 raised too', [(POSITION, NO_REMAINDER, 'if exact == 0 {')]),
     ('rounding each contract', 'the amount of one contract rounded to a real, then multiplied', [
-        (POSITION, EXACT, 'let exact = up_to(unit * m, real * million) * quantity;'), (POSITION, AMOUNT, UP_TO + AMOUNT)]),
+        (POSITION, EXACT, UP_TO + 'up_to(unit * m, REAL * MILLION) * quantity\n')]),
     ('rounding each contract to a centavo', 'the amount of one contract rounded to a centavo, the line to a real', [
-        (POSITION, EXACT, 'let exact = up_to(unit * m, million) * quantity;'), (POSITION, AMOUNT, UP_TO + AMOUNT)]),
+        (POSITION, EXACT, UP_TO + 'up_to(unit * m, MILLION) * quantity\n')]),
     ('rounding each tick', 'the unit margin rounded to ticks, then multiplied', [
-        (POSITION, EXACT, 'let exact = up_to(unit, million) * m * quantity;'), (POSITION, AMOUNT, UP_TO + AMOUNT)]),
+        (POSITION, EXACT, UP_TO + 'up_to(unit, MILLION) * m * quantity\n')]),
 ]

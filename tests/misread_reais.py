@@ -3,23 +3,15 @@ misreadings.py. Those of the rounding itself, up, down and to the nearest, are i
 """
 LINES, PAIRING, POSITION = 'lines.rs', 'pairing.rs', 'position.rs'
 ONE_REAL = 'let one_real = real * million;'
-IN_CENTAVOS = '((i128::from(%s) * i128::from(%s) * i128::from(quantity) + 999_999) / 1_000_000) as i64'
-PAIR_LINE = [(PAIRING, 'amount(spread, account.series_of(written).m, quantity)',
-              IN_CENTAVOS % ('spread', 'account.series_of(written).m'))]
-LEFT_LINE = [(LINES, 'amount(unit, series.m, quantity)', IN_CENTAVOS % ('unit', 'series.m'))]
+IN_CENTAVOS = '((crate::position::exact_%s + 999_999) / 1_000_000) as i64'
+OF_PAIR_LINE, OF_LEFT_LINE = 'amount(spread, account.series_of(written).m, quantity)', 'amount(unit, series.m, quantity)'
+PAIR_LINE = [(PAIRING, OF_PAIR_LINE, IN_CENTAVOS % OF_PAIR_LINE)]
+LEFT_LINE = [(LINES, OF_LEFT_LINE, IN_CENTAVOS % OF_LEFT_LINE)]
 PREMIUM = 'position.premium * account.series_of(row).m * position.quantity'
 PREMIUMS = '.map(|row| premium_amount(account, row)).sum();'
 TOTAL = 'let total = pair_amounts + left_amounts + premium;'
-EXACT_TOTAL = '''let exact = |row: usize, unit: i64, quantity: i64| {
-    i128::from(unit) * i128::from(account.series_of(row).m) * i128::from(quantity)
-};
-let spread = |p: &Pair| crate::pairing::allowed_spread(account, p.written, p.held).unwrap();
-let alone = |row: usize| match account.positions[row].side {
-    Side::Held => 0,
-    Side::Written => written_unit_margin(account.series_of(row), &account.positions[row].terms()),
-};
-let of_pairs: i128 = pairs.iter().map(|p| exact(p.written, spread(p), p.quantity)).sum();
-let of_left: i128 = left.iter().map(|l| exact(l.row, alone(l.row), l.quantity)).sum();
+EXACT_TOTAL = '''let of_pairs: i128 = pairs.iter().map(|p| exact_of_pair(account, p.written, p.held, p.quantity)).sum();
+let of_left: i128 = left.iter().map(|l| exact_of_left(account, l.row, l.quantity)).sum();
 let total = ((of_pairs + of_left + 99_999_999) / 100_000_000 * 100) as i64 + premium;
 '''
 ALLOWED = 'if alone > spread {'

@@ -1,48 +1,32 @@
 //! Deliberate changes of how amounts and premiums are rounded (document 02 [6]).
 
 use reference::account::{Account, Side, MILLION, REAL};
-use reference::pairing::allowed_spread;
-use reference::position::written_unit_margin;
+use reference::lines::{exact_of_left, exact_of_pair};
 use reference::reader::read_account;
 
 use crate::changes::Change;
 use crate::implementation::{Line, Margin};
 
 /// Before it is rounded, in millionths of a centavo.
-pub type Exact = u128;
+pub type Exact = i128;
 
 const CENTAVO: Exact = MILLION as Exact;
 const REAL_EXACT: Exact = REAL as Exact * CENTAVO;
 
-/// What a line's amount is made of: the unit margin of a pair or of a written row left, M and the
-/// contracts. Also says at which place of the entry the amount stands.
+/// At which place of an entry the amount stands, and the amount before it is rounded.
 pub fn exact_of_line(account: &Account, entry: &Line) -> (usize, Exact) {
     let [kind, first, second, third, _] = *entry;
     let row = first as usize;
     if kind == 1 {
-        let unit = allowed_spread(account, row, second as usize).unwrap_or(0);
-        (4, product(account, row, unit, third))
+        (4, exact_of_pair(account, row, second as usize, third as i64))
     } else {
-        (3, product(account, row, unit_alone(account, row), second))
+        (3, exact_of_left(account, row, second as i64))
     }
-}
-
-/// The unit margin of a written row, 0 of a held one.
-fn unit_alone(account: &Account, row: usize) -> i64 {
-    let position = &account.positions[row];
-    match position.side {
-        Side::Held => 0,
-        Side::Written => written_unit_margin(account.series_of(row), &position.terms()),
-    }
-}
-
-fn product(account: &Account, row: usize, unit: i64, quantity: u64) -> Exact {
-    unit as Exact * account.series_of(row).m as Exact * Exact::from(quantity)
 }
 
 /// Up to a multiple of a step, in centavos.
 fn up_to(step: Exact, exact: Exact) -> u64 {
-    (exact.next_multiple_of(step) / CENTAVO) as u64
+    ((exact + step - 1) / step * step / CENTAVO) as u64
 }
 
 pub fn up_to_real(centavos: u64) -> u64 {
@@ -94,11 +78,9 @@ pub fn change_amount(change: Change, file: &[u8], row: u64, amount: i64) -> i64 
         _ => return amount,
     };
     let position = &account.positions[row as usize];
-    let unit = unit_alone(&account, row as usize);
     match (change, position.side) {
         (Change::AmountInCentavos, Side::Written) => {
-            let exact = product(&account, row as usize, unit, position.quantity as u64);
-            up_to(CENTAVO, exact) as i64
+            up_to(CENTAVO, exact_of_left(&account, row as usize, position.quantity)) as i64
         }
         (Change::HeldAmountInReais, Side::Held) => up_to_real(amount as u64) as i64,
         _ => amount,

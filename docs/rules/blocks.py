@@ -18,6 +18,11 @@ PAIRS_HEAD = ['Rows', 'Tests', 'Spread margin, ticks', 'Written unit margin',
               'Amount, centavos; `margin` prints']
 
 
+def in_ticks(result):
+    """A result with its unit."""
+    return f'{result} tick' if result.split()[-1] == '1' else f'{result} ticks'
+
+
 def rendered(example, lines, product):
     """An example line by line: the rows, the arithmetic and the product's lines."""
     last = f'{lines[-1]}; margin prints: {", ".join(product)}'
@@ -30,7 +35,7 @@ def unit_block(block):
     for example, text in examples_in(block):
         row, product = rows_from(text)[0], agreed(text)
         unit = unit_margin(row)
-        parts.append(rendered(example, [*unit.tests, *unit.payoff, f'unit margin = {unit.result} ticks',
+        parts.append(rendered(example, [*unit.tests, *unit.payoff, f'unit margin = {in_ticks(unit.result)}',
                                         f'amount = {amount(unit.value, row, row.Q)[1]} centavos'], product[:1]))
     return in_block(parts)
 
@@ -65,8 +70,8 @@ def pair_lines(written, held):
     if spread.value is None:
         return [*spread.tests, 'barred: no pair']
     verdict, arithmetic = compared(written, spread)
-    return [*spread.tests, *spread.payoff, f'spread margin = {spread.result} ticks',
-            f'written unit margin = {unit_margin(written).result} ticks; {verdict}', f'amount = {arithmetic} centavos']
+    return [*spread.tests, *spread.payoff, f'spread margin = {in_ticks(spread.result)}',
+            f'written unit margin = {in_ticks(unit_margin(written).result)}; {verdict}', f'amount = {arithmetic} centavos']
 
 
 def pair_block(block):
@@ -116,13 +121,13 @@ def example_block(block):
 def alone_lines(row):
     """The unit margin of a written row in an account."""
     unit = unit_margin(row)
-    return [f'row {row.number}: {line}' for line in [*unit.payoff, f'unit margin = {unit.result} ticks']]
+    return [f'row {row.number}: {line}' for line in [*unit.payoff, f'unit margin = {in_ticks(unit.result)}']]
 
 
 def made_line(written, held):
     """The unit spread margin of a pair of an account."""
     return (f'rows {written.number} and {held.number}: strike difference {abs(held.PE - written.PE)}, '
-            f'spread margin = {unit_spread(written, held).result} ticks')
+            f'spread margin = {in_ticks(unit_spread(written, held).result)}')
 
 
 def steps_block(block):

@@ -8,8 +8,8 @@
     serpentgleam.factors('FCI', 720)                   # fa and fb of a code's row and the days; raises Refused
     serpentgleam.day(data, 0, 3500, 2700, 2900)        # the file's bytes after a series' high, low and close
 
-Amounts are in centavos: those of lines and of written rows are whole reais, multiples of 100, and premiums are exact.
-Factors are whole millionths. Calls may be made from any threads.
+Amounts are in centavos: those of lines and of written rows are whole reais, multiples of 100, premiums are exact, and
+the total is the sum, not rounded. Factors are whole millionths. Calls may be made from any threads.
 """
 from .answers import REASONS, Factors, Left, Margin, Pair, Refusal, Refused
 from .codes import CODES

@@ -37,7 +37,8 @@ class Left(NamedTuple):
 
 
 class Margin(NamedTuple):
-    """An account's margin: pairs as made, rows left in row order, premiums in centavos, exact, and the sum of all."""
+    """An account's margin in centavos: pairs as made, rows left in row order, the premiums, exact, and the total: the
+    lines' amounts and the premiums added up, not rounded."""
     pairs: Tuple[Pair, ...]
     left: Tuple[Left, ...]
     premium: int

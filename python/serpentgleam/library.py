@@ -1,4 +1,5 @@
-"""Finds and loads the shared object of the proved library, and says what its calls take and give."""
+"""Finds and loads the shared object of the proved library, and says what its calls take and give. Amounts are the
+library's: of one before version 0.6.0 they are rounded up to one centavo and not to whole reais."""
 import ctypes
 import functools
 import os

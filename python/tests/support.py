@@ -62,9 +62,9 @@ def written(path, data):
     return path
 
 
-def file_with(text):
+def file_with(text, series=SERIES_TEXT):
     """The file of a text that begins with one call series."""
-    return file_from_text((SERIES_TEXT + text).encode())
+    return file_from_text((series + text).encode())
 
 
 def row_with(text):

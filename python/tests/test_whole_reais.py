@@ -3,23 +3,17 @@ itself, so that a pair can raise the total. Premiums are exact.
 """
 import unittest
 
-from support import SERIES_TEXT, VECTORS, WHOLE_REAIS, bytes_of, command, whole_reais
+from support import SERIES_TEXT, VECTORS, WHOLE_REAIS, bytes_of, command, file_with, whole_reais
 
 import serpentgleam
 from serpentgleam import Left, Margin, Pair, engine
 from serpentgleam.layout import account_of, file_of
-from serpentgleam.text import file_from_text
 
 HEADER = ' '.join(bytes_of('include', 'serpentgleam.h').decode().replace('\n *', ' ').split())
 LARGEST_AMOUNT, LARGEST_TOTAL = 9_999_999_900_000_000, 2_559_999_974_400_000_000
 SMALL_SERIES = 'series call PV=10 fa=1.2 fb=0.8 f3=0.0 M=1\n'
 ONE_CENTAVO_A_TICK = SERIES_TEXT.replace('M=5', 'M=1')
 ACCEPTED = [data for data, answer in VECTORS if not answer.startswith('refused')]
-
-
-def account(text):
-    """The file of a text."""
-    return file_from_text(text.encode())
 
 
 def rows_of(data):
@@ -38,8 +32,7 @@ class Vectors(unittest.TestCase):
             margin = serpentgleam.margin(data)
             lines = [line.amount for line in margin.pairs + margin.left]
             self.assertEqual([amount % 100 for amount in lines], [0] * len(lines))
-            self.assertEqual(margin.premium, sum(premium for written, premium, _ in rows_of(data) if not written))
-            self.assertEqual(margin.total, sum(lines) + margin.premium)
+            self.assertEqual(margin.total, sum(lines) + sum(premium for _, premium, _ in rows_of(data)))
             amounts += sum(amount > 0 for amount in lines)
             odd_totals += margin.total % 100 > 0
         self.assertGreater(amounts, 1000)
@@ -66,48 +59,49 @@ class Vectors(unittest.TestCase):
                 if written and left.row not in paired:
                     self.assertEqual(left.amount, amount)
 
-    def test_what_a_pair_adds_at_most(self):
-        """Against the written rows by themselves each pair raises the total by 100 centavos at most."""
+    def test_what_all_pairs_add_at_most(self):
+        """Together they raise the total above that of the rows by themselves by no more than 100 centavos for each."""
         raised = 0
         for data in ACCEPTED:
             margin = serpentgleam.margin(data)
-            apart = margin.premium + sum(amount for written, _, amount in rows_of(data) if written)
+            apart = sum(amount for _, _, amount in rows_of(data))
             self.assertLessEqual(margin.total, apart + 100 * len(margin.pairs))
             raised += margin.total > apart
         self.assertGreater(raised, 0)
 
 
 class Rounding(unittest.TestCase):
-    def check(self, text, amount):
+    def check(self, series, row, amount):
         """The amount of the one written row by itself, and of its line."""
-        data = account(text)
+        data = file_with(row, series)
         self.assertEqual(serpentgleam.position_amount(data, 0), amount)
         margin = serpentgleam.margin(data)
         self.assertEqual((margin.pairs, [left.amount for left in margin.left], margin.total), ((), [amount], amount))
 
     def test_document(self):
-        self.check('series call PV=3001 fa=1.234567 fb=0.8 f3=0.05 M=5\nwritten Q=10 PE=3100 european', 30_300)
+        series = 'series call PV=3001 fa=1.234567 fb=0.8 f3=0.05 M=5\n'
+        self.check(series, 'written Q=10 PE=3100 european', 30_300)
 
     def test_around_multiples(self):
         for centavos in (0, 1, 50, 99, 100, 101, 199, 200, 201, 9_999_899, 9_999_900, 9_999_901, 10_000_000):
-            self.check(f'{ONE_CENTAVO_A_TICK}written Q=1 PE=1 up-and-out=1 REB={centavos} knocked-out',
+            self.check(ONE_CENTAVO_A_TICK, f'written Q=1 PE=1 up-and-out=1 REB={centavos} knocked-out',
                        whole_reais(centavos))
 
     def test_less_than_a_centavo_above(self):
-        self.check(SMALL_SERIES + 'written Q=50 PE=10', 100)
-        self.check(SMALL_SERIES.replace('fa=1.2', 'fa=1.200001') + 'written Q=50 PE=10', 200)
+        self.check(SMALL_SERIES, 'written Q=50 PE=10', 100)
+        self.check(SMALL_SERIES.replace('fa=1.2', 'fa=1.200001'), 'written Q=50 PE=10', 200)
 
     def test_all_contracts_together(self):
         """The product is rounded once, and not each contract."""
         for contracts in (1, 2, 3, 99, 100, 101, 100_000):
-            self.check(f'{ONE_CENTAVO_A_TICK}written Q={contracts} PE=1 up-and-out=1 REB=50 knocked-out',
+            self.check(ONE_CENTAVO_A_TICK, f'written Q={contracts} PE=1 up-and-out=1 REB=50 knocked-out',
                        whole_reais(50 * contracts))
 
     def test_pairs(self):
         for difference in (1, 99, 100, 101, 499):
             for contracts in (1, 2, 7):
-                data = account(f'{ONE_CENTAVO_A_TICK}written Q={contracts} PE=3100 european\n'
-                               f'held Q={contracts} PE={3100 + difference} european')
+                data = file_with(f'written Q={contracts} PE=3100 european\n'
+                                 f'held Q={contracts} PE={3100 + difference} european', ONE_CENTAVO_A_TICK)
                 amount = whole_reais(difference * contracts)
                 self.assertEqual(serpentgleam.margin(data), Margin((Pair(0, 1, contracts, amount),), (), 0, amount))
 
@@ -117,16 +111,18 @@ class RaisedTotal(unittest.TestCase):
     WRITTEN, HELD = 'written Q=2 PE=10 european\n', 'held Q=1 PE=11 european\n'
 
     def test_by_a_pair(self):
-        alone, both = account(SMALL_SERIES + self.WRITTEN), account(SMALL_SERIES + self.WRITTEN + self.HELD)
+        alone, both = file_with(self.WRITTEN, SMALL_SERIES), file_with(self.WRITTEN + self.HELD, SMALL_SERIES)
         self.assertEqual([serpentgleam.position_amount(data, 0) for data in (alone, both)], [100, 100])
         self.assertEqual(serpentgleam.margin(alone), Margin((), (Left(0, 2, 100),), 0, 100))
         self.assertEqual(serpentgleam.margin(both), Margin((Pair(0, 1, 1, 100),), (Left(0, 1, 100),), 0, 200))
 
     def test_by_many_pairs(self):
-        """Each of 255 pairs raises it by 100."""
-        data = account(SMALL_SERIES + self.WRITTEN.replace('Q=2', 'Q=256') + self.HELD * 255)
-        self.assertEqual(serpentgleam.position_amount(data, 0), whole_reais(2 * 256))
-        self.assertEqual(serpentgleam.margin(data).total, 256 * 100)
+        """255 pairs raise it from 600 to 25,600."""
+        written = self.WRITTEN.replace('Q=2', 'Q=256')
+        alone, all_rows = file_with(written, SMALL_SERIES), file_with(written + self.HELD * 255, SMALL_SERIES)
+        self.assertEqual(serpentgleam.margin(alone).total, 600)
+        margin = serpentgleam.margin(all_rows)
+        self.assertEqual((len(margin.pairs), margin.total), (255, 25_600))
 
     def test_example(self):
         data = bytes_of(WHOLE_REAIS)
@@ -142,12 +138,12 @@ class Premiums(unittest.TestCase):
         for premium, contracts in ((7, 3), (1, 1), (13, 7), (20, 5), (9_999_999, 99_999)):
             amount = premium * 5 * contracts
             for words in ('', 'up-and-out=3500 REB=40 knocked-out'):
-                data = account(f'{SERIES_TEXT}held Q={contracts} PE=3100 premium={premium} {words}')
+                data = file_with(f'held Q={contracts} PE=3100 premium={premium} {words}')
                 self.assertEqual(serpentgleam.position_amount(data, 0), amount)
                 self.assertEqual(serpentgleam.margin(data), Margin((), (Left(0, contracts, 0),), amount, amount))
 
     def test_paired(self):
-        data = account(f'{SERIES_TEXT}written Q=3 PE=3100 european\nheld Q=3 PE=3101 premium=7 european')
+        data = file_with('written Q=3 PE=3100 european\nheld Q=3 PE=3101 premium=7 european')
         self.assertEqual(serpentgleam.margin(data), Margin((Pair(0, 1, 3, 100),), (), 105, 205))
 
     def test_what_is_left_of_the_total(self):
@@ -162,7 +158,7 @@ class Largest(unittest.TestCase):
     SERIES = 'series call PV=10000000 fa=10.0 fb=0.0 f3=1.0 M=1000\n'
 
     def test_amount_and_total(self):
-        one = account_of(account(self.SERIES + self.ROW))
+        one = account_of(file_with(self.ROW, self.SERIES))
         data = file_of(one._replace(positions=one.positions * 256))
         self.assertEqual(serpentgleam.position_amount(data, 255), LARGEST_AMOUNT)
         margin = serpentgleam.margin(data)
@@ -174,7 +170,6 @@ class Largest(unittest.TestCase):
         for said in (f'The largest amount is {LARGEST_AMOUNT:,}.', f'the largest total is {LARGEST_TOTAL:,},',
                      'Before version 0.6.0 '):
             self.assertIn(said, HEADER)
-        self.assertGreaterEqual([int(part) for part in serpentgleam.__version__.split('.')], [0, 6, 0])
 
 
 if __name__ == '__main__':

@@ -67,6 +67,12 @@ impl SeriesDraft {
         }
     }
 
+    /// PV 10, H 12, L 8, no minimum, M 1: a written row at the money has 2 ticks
+    /// a contract, and a spread of one tick 1.
+    pub fn at_ten(type_byte: u8) -> SeriesDraft {
+        SeriesDraft { pv: 10, f3: 0, m: 1, ..SeriesDraft::checked(type_byte) }
+    }
+
     pub fn bytes(&self) -> Vec<u8> {
         let mut bytes = Vec::new();
         for field in [self.pv, self.fa, self.fb, self.f3, self.m] {

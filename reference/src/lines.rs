@@ -1,8 +1,8 @@
 //! Lines and total.
 
 use crate::account::{Account, Side};
-use crate::pairing::{contracts, repeated_choice, Pair};
-use crate::position::{amount, premium_amount, written_unit_margin};
+use crate::pairing::{allowed_spread, contracts, repeated_choice, Pair};
+use crate::position::{amount, exact_amount, premium_amount, written_unit_margin};
 use crate::reader::{read_account, Refusal};
 
 #[derive(Clone, Copy, Debug, PartialEq, Eq)]
@@ -45,7 +45,8 @@ pub fn margin_by(account: &Account, pairing: Pairing) -> Margin {
     Margin { pairs, left, premium, total }
 }
 
-fn rows_left(account: &Account, contracts_left: &[i64]) -> Vec<Left> {
+/// Rows with contracts left, in row order.
+pub fn rows_left(account: &Account, contracts_left: &[i64]) -> Vec<Left> {
     let mut left = Vec::with_capacity(contracts_left.len());
     for (row, position) in account.positions.iter().enumerate() {
         let quantity = contracts_left[row];
@@ -63,6 +64,22 @@ fn rows_left(account: &Account, contracts_left: &[i64]) -> Vec<Left> {
         left.push(Left { row, quantity, amount });
     }
     left
+}
+
+/// The amount of so many contracts left in a row before it is rounded, in
+/// millionths of a centavo.
+pub fn exact_of_left(account: &Account, row: usize, quantity: i64) -> i128 {
+    let (series, position) = (account.series_of(row), &account.positions[row]);
+    if position.side == Side::Held {
+        return 0;
+    }
+    exact_amount(written_unit_margin(series, &position.terms()), series.m, quantity)
+}
+
+/// The same of so many contracts of a pair.
+pub fn exact_of_pair(account: &Account, written: usize, held: usize, quantity: i64) -> i128 {
+    let unit = allowed_spread(account, written, held).expect("an allowed pair");
+    exact_amount(unit, account.series_of(written).m, quantity)
 }
 
 /// The unsettled premiums of all held rows, by themselves.

@@ -85,13 +85,20 @@ fn written_put(series: &Series, terms: &Terms) -> i64 {
     }
 }
 
+/// Unit × M × quantity, in millionths of a centavo: an amount before it is
+/// rounded.
+pub fn exact_amount(unit: i64, m: i64, quantity: i64) -> i128 {
+    let [unit, m, quantity] = [unit, m, quantity].map(i128::from);
+    unit * m * quantity
+}
+
 /// Fine units per contract to centavos: unit × M × quantity, divided by
 /// 1,000,000 and rounded up once. Document 02 [6]: "Each line amount, and the
 /// amount for one position, is rounded up to a multiple of 100 centavos instead
 /// of to one centavo."
 pub fn amount(unit: i64, m: i64, quantity: i64) -> i64 {
-    let [unit, m, quantity, million, real] = [unit, m, quantity, MILLION, REAL].map(i128::from);
-    let exact = unit * m * quantity;
+    let exact = exact_amount(unit, m, quantity);
+    let [million, real] = [MILLION, REAL].map(i128::from);
     // A real, in millionths of a centavo as the product is.
     let one_real = real * million;
     let whole = exact / one_real;

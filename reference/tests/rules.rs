@@ -89,8 +89,9 @@ fn held_row_is_its_premium() {
 
 #[test]
 fn rounded_once_not_by_contract() {
-    // A third of a tick a contract, nearly: three contracts are less than one
-    // centavo, and 100 centavos once rounded up.
+    // A third of a tick a contract, nearly: 150 contracts are less than 50
+    // centavos, and 100 once rounded up. Each rounded to a centavo, they would
+    // be 150 centavos, and then 200.
     let series = SeriesDraft {
         pv: 1,
         fa: 1_000_000,
@@ -100,7 +101,7 @@ fn rounded_once_not_by_contract() {
         type_byte: CALL,
         spare: [0; 3],
     };
-    let row = PositionDraft::plain(0, WRITTEN, 1, 3);
+    let row = PositionDraft::plain(0, WRITTEN, 1, 150);
     assert_eq!(one_position(&Draft::new(vec![series], vec![row]).bytes(), 0), 100);
 }
 

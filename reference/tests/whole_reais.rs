@@ -5,11 +5,11 @@ use std::collections::BTreeSet;
 
 use reference::account::{fine, Account, OptionType, Side};
 use reference::draft::{Draft, PositionDraft, SeriesDraft, CALL, HELD, PUT, UP_AND_OUT, WRITTEN};
-use reference::lines::{margin, premiums, Margin};
+use reference::lines::{exact_of_left, exact_of_pair, margin, premiums, rows_left, Margin};
 use reference::output::{amounts_output, margin_output, outputs_of};
-use reference::position::{amount, one_position, position_amount, written_unit_margin};
+use reference::pairing::contracts;
+use reference::position::{amount, one_position, position_amount, premium_amount};
 use reference::reader::read_account;
-use reference::spread::unit_spread_margin;
 use reference::vectors::all_cases;
 
 fn written(strike: u32, quantity: u32) -> PositionDraft {
@@ -18,11 +18,6 @@ fn written(strike: u32, quantity: u32) -> PositionDraft {
 
 fn held(strike: u32, quantity: u32) -> PositionDraft {
     PositionDraft::plain(0, HELD, strike, quantity)
-}
-
-/// PV 10, H 12, L 8, no minimum, M 1.
-fn at_ten(type_byte: u8) -> SeriesDraft {
-    SeriesDraft { pv: 10, f3: 0, m: 1, ..SeriesDraft::checked(type_byte) }
 }
 
 fn file(series: SeriesDraft, rows: &[PositionDraft]) -> Vec<u8> {
@@ -109,25 +104,25 @@ fn each_line_by_itself() {
                     left 4 1 0\n\
                     premium 2\n\
                     total 402\n";
-    assert_eq!(margin_output(&file(at_ten(CALL), &rows)), expected);
+    assert_eq!(margin_output(&file(SeriesDraft::at_ten(CALL), &rows)), expected);
 }
 
 /// Rounding can raise the total above what the written row is alone.
 #[test]
 fn a_pair_that_raises_the_total() {
     for (type_byte, strike) in [(CALL, 11), (PUT, 9)] {
-        let bytes = file(at_ten(type_byte), &[written(10, 2), held(strike, 1)]);
+        let bytes = file(SeriesDraft::at_ten(type_byte), &[written(10, 2), held(strike, 1)]);
         assert_eq!(one_position(&bytes, 0), 100);
         let expected = "pair 0 1 1 100\nleft 0 1 100\npremium 0\ntotal 200\n";
         assert_eq!(margin_output(&bytes), expected);
-        let alone = file(at_ten(type_byte), &[written(10, 2)]);
+        let alone = file(SeriesDraft::at_ten(type_byte), &[written(10, 2)]);
         assert_eq!(margin_output(&alone), "left 0 2 100\npremium 0\ntotal 100\n");
     }
 }
 
 #[test]
 fn amounts_of_0_stay() {
-    let bytes = file(at_ten(CALL), &[written(12, 9), written(10, 3), held(10, 3)]);
+    let bytes = file(SeriesDraft::at_ten(CALL), &[written(12, 9), written(10, 3), held(10, 3)]);
     assert_eq!(one_position(&bytes, 0), 0);
     assert_eq!(margin_output(&bytes), "pair 1 2 3 0\nleft 0 9 0\npremium 0\ntotal 0\n");
 }
@@ -148,34 +143,13 @@ fn least_multiple(amount: i64, exact: i128) -> bool {
     amount % 100 == 0 && millionths(amount) >= exact && millionths(amount - 100) < exact
 }
 
-/// Unit × M × quantity, in millionths of a centavo.
-fn exact(account: &Account, row: usize, unit: i64, quantity: i64) -> i128 {
-    i128::from(unit) * i128::from(account.series_of(row).m) * i128::from(quantity)
-}
-
-/// What a row's own unit margin comes to, 0 for a held row.
-fn exact_of_row(account: &Account, row: usize, quantity: i64) -> i128 {
-    let position = &account.positions[row];
-    match position.side {
-        Side::Held => 0,
-        Side::Written => {
-            let unit = written_unit_margin(account.series_of(row), &position.terms());
-            exact(account, row, unit, quantity)
-        }
-    }
-}
-
 /// Amount and exact amount of each pair line and of each left line.
 fn line_amounts(account: &Account, answer: &Margin) -> [Vec<(i64, i128)>; 2] {
-    let of_pairs = answer.pairs.iter().map(|pair| {
-        let [written, held] = [pair.written, pair.held].map(|row| account.positions[row].terms());
-        let unit = unit_spread_margin(account.series_of(pair.held), &held, &written);
-        (pair.amount, exact(account, pair.held, unit.expect("a spread"), pair.quantity))
-    });
-    let of_left = answer
-        .left
+    let of_pairs = answer
+        .pairs
         .iter()
-        .map(|left| (left.amount, exact_of_row(account, left.row, left.quantity)));
+        .map(|p| (p.amount, exact_of_pair(account, p.written, p.held, p.quantity)));
+    let of_left = answer.left.iter().map(|l| (l.amount, exact_of_left(account, l.row, l.quantity)));
     [of_pairs.collect(), of_left.collect()]
 }
 
@@ -183,16 +157,33 @@ fn accepted_accounts() -> Vec<Account> {
     all_cases().iter().filter_map(|case| read_account(&case.bytes).ok()).collect()
 }
 
-/// Premium × M × Q of a row.
-fn premium(account: &Account, row: usize) -> i64 {
-    let position = &account.positions[row];
-    position.premium * account.series_of(row).m * position.quantity
+/// A file of a program in `crates`.
+fn stored(program: &str, name: &str) -> Vec<u8> {
+    let path = format!("{}/../crates/{program}/{name}", env!("CARGO_MANIFEST_DIR"));
+    std::fs::read(&path).expect(&path)
+}
+
+/// The accepted accounts, each with the number in the `premium` line of the
+/// output that stands in crates/margin_batch.
+fn accounts_and_premiums() -> Vec<(Account, i64)> {
+    let output = String::from_utf8(stored("margin_batch", "stdout")).expect("text");
+    let answers: Vec<&str> = output.split("\n\n").collect();
+    let premium = |answer: &str| {
+        let line = answer.lines().find_map(|line| line.strip_prefix("premium ")).expect("premium");
+        line.parse().expect("a number")
+    };
+    let cases = all_cases();
+    // After the last answer nothing is left.
+    assert_eq!(answers.len(), cases.len() + 1);
+    let both = cases.iter().zip(answers);
+    both.filter_map(|(case, answer)| Some((read_account(&case.bytes).ok()?, premium(answer))))
+        .collect()
 }
 
 #[test]
 fn every_line_of_the_vectors() {
     let mut lines = 0;
-    for account in accepted_accounts() {
+    for (account, premium) in accounts_and_premiums() {
         let answer = margin(&account);
         let [of_pairs, of_left] = line_amounts(&account, &answer);
         let mut sum = 0;
@@ -201,26 +192,60 @@ fn every_line_of_the_vectors() {
             sum += amount;
             lines += 1;
         }
-        let premiums: i64 = (0..account.positions.len()).map(|row| premium(&account, row)).sum();
-        assert_eq!((answer.premium, answer.total), (premiums, sum + premiums));
+        assert_eq!(answer.total, sum + premium);
     }
     assert!(lines > 10_000, "{lines} lines");
 }
 
+/// Those of held rows add up to the premium that their account's output shows.
 #[test]
 fn every_position_of_the_vectors() {
-    for account in accepted_accounts() {
+    for (account, premium) in accounts_and_premiums() {
+        let mut of_held = 0;
         for (row, position) in account.positions.iter().enumerate() {
             let amount = position_amount(&account, row);
             match position.side {
-                Side::Held => assert_eq!(amount, premium(&account, row)),
+                Side::Held => of_held += amount,
                 Side::Written => {
-                    let exact = exact_of_row(&account, row, position.quantity);
+                    let exact = exact_of_left(&account, row, position.quantity);
                     assert!(least_multiple(amount, exact), "{amount} for {exact}");
                 }
             }
         }
+        assert_eq!(of_held, premium);
     }
+}
+
+/// A pair raises the total above what it is after one round of pairing less by
+/// 100 centavos at most, and not at all where no contracts of its written row
+/// are left.
+#[test]
+fn what_each_pair_adds_at_most() {
+    let mut raised_by = BTreeSet::new();
+    for account in accepted_accounts() {
+        let answer = margin(&account);
+        let total_with = |pair_amounts: i64, contracts_left: &[i64]| -> i64 {
+            let left = rows_left(&account, contracts_left);
+            pair_amounts + left.iter().map(|l| l.amount).sum::<i64>() + answer.premium
+        };
+        let (mut pair_amounts, mut contracts_left) = (0, contracts(&account));
+        let mut total = total_with(pair_amounts, &contracts_left);
+        for pair in &answer.pairs {
+            pair_amounts += pair.amount;
+            contracts_left[pair.written] -= pair.quantity;
+            contracts_left[pair.held] -= pair.quantity;
+            let before = total;
+            total = total_with(pair_amounts, &contracts_left);
+            let most = if contracts_left[pair.written] > 0 { 100 } else { 0 };
+            assert!(total <= before + most, "{before}, then {total} with {pair:?}");
+            if total > before {
+                raised_by.insert(account.series_of(pair.written).option_type == OptionType::Call);
+            }
+        }
+        assert_eq!(total, answer.total);
+    }
+    // By pairs of calls and of puts.
+    assert_eq!(raised_by.len(), 2);
 }
 
 /// How an exact amount stands to a multiple of 100 centavos.
@@ -250,36 +275,38 @@ fn vectors_of_every_sort() {
     assert_eq!(found.len(), 2 * 2 * 7, "{found:?}");
 }
 
-/// Premiums that are no multiples of 100, of rows in pairs and of others; and
-/// accounts of calls and of puts that pairs make dearer.
+/// Premiums that are multiples of 100 and others, of rows in pairs and of others.
 #[test]
-fn vectors_of_premiums_and_dearer_pairs() {
-    let (mut found, mut dearer) = (BTreeSet::new(), BTreeSet::new());
+fn vectors_of_premiums() {
+    let mut found = BTreeSet::new();
     for account in accepted_accounts() {
         let answer = margin(&account);
-        for row in 0..account.positions.len() {
+        for row in (0..account.positions.len()).filter(|r| account.positions[*r].premium > 0) {
             let paired = answer.pairs.iter().any(|pair| pair.held == row);
-            found.insert((paired, premium(&account, row) % 100 != 0));
+            found.insert((paired, premium_amount(&account, row) % 100 != 0));
         }
-        let alone: i64 = (0..account.positions.len()).map(|r| position_amount(&account, r)).sum();
-        // Each pair adds one line to round up.
-        assert!(answer.total <= alone + 100 * answer.pairs.len() as i64);
-        if answer.total > alone {
+    }
+    assert_eq!(found.len(), 2 * 2);
+}
+
+/// Accounts of calls and of puts with a total above that of their rows apart.
+#[test]
+fn vectors_that_pairs_make_dearer() {
+    let mut dearer = BTreeSet::new();
+    for account in accepted_accounts() {
+        let apart: i64 = (0..account.positions.len()).map(|r| position_amount(&account, r)).sum();
+        if margin(&account).total > apart {
             dearer.insert(account.series[0].option_type == OptionType::Call);
         }
     }
-    assert_eq!((found.len(), dearer.len()), (4, 2));
+    assert_eq!(dearer.len(), 2);
 }
 
 /// The amounts that stand in crates/position_amounts are worked out by hand.
 #[test]
 fn amounts_worked_out_by_hand() {
-    let stored = |name: &str| {
-        let folder = concat!(env!("CARGO_MANIFEST_DIR"), "/../crates/position_amounts/");
-        std::fs::read(folder.to_string() + name).expect(name)
-    };
     // The last file is cut off.
-    let (input, output) = (stored("stdin"), stored("stdout"));
+    let [input, output] = ["stdin", "stdout"].map(|name| stored("position_amounts", name));
     let files = input.strip_suffix(b"\x44\0\0\0cut").expect("a file cut off");
     let expected = output.strip_suffix(b"cut off\n").expect("its line");
     assert!(outputs_of(files, amounts_output).as_bytes() == expected);

@@ -137,12 +137,13 @@ int64_t spread_margin(const struct series *s, const struct row *w, const struct 
     return reachable ? largest(o, MM_R, mm, r, d) : larger(o, MM_D, mm, d);
 }
 
-/* unit × M × Q, divided by 1,000,000 and rounded up once, to a multiple of 100 centavos: the whole hundreds of ticks and the
- * rest apart, since the product can pass 64 bits. */
+/* The product can pass 64 bits. C11 has no such type, gcc has. */
+__extension__ typedef unsigned __int128 wide;
+
+/* unit × M × Q, divided by 1,000,000 and rounded up once, to a multiple of 100 centavos. A real is 10^8 of the product. */
 uint64_t amount_of(int64_t unit, uint32_t m, uint32_t q)
 {
-    uint64_t contracts = (uint64_t)m * q;
-    uint64_t whole = (uint64_t)unit / 100000000, rest = (uint64_t)unit % 100000000;
+    const wide real = 100000000;
 
-    return (whole * contracts + (rest * contracts + 99999999) / 100000000) * 100;
+    return (uint64_t)(((wide)unit * m * q + real - 1) / real * 100);
 }

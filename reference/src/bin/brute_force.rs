@@ -12,7 +12,7 @@ use reference::sample::{limited_alike, sample_account, sample_day, some_knocked_
 
 const LONGEST_PATH: usize = 4;
 
-/// With M up to 1,000, so that rounding to reais hides little.
+/// With M up to 1,000, so that what rounding adds is small beside the amounts.
 const SMALL: Shape = Shape {
     series: (1, 2),
     positions: (1, 7),
@@ -21,7 +21,7 @@ const SMALL: Shape = Shape {
     m: (1, 1_000),
     fb_above_one: false,
 };
-/// Larger numbers, so that it hides still less.
+/// Larger numbers, beside which it is smaller still.
 const WIDE: Shape = Shape { pv: (1, 10_000_000), quantity: (1, 100_000), ..SMALL };
 /// Cover and least amount are not promised here, contracts and pairs are.
 const HIGH_FB: Shape = Shape { fb_above_one: true, ..SMALL };

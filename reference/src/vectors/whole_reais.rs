@@ -89,20 +89,15 @@ fn spreads_in_ticks(cases: &mut Cases, type_byte: u8) {
     }
 }
 
-/// PV 10, H 12, L 8, no minimum, M 1: a written row at the money has 2 ticks a
-/// contract, and a spread of one tick 1.
-fn at_ten(type_byte: u8) -> SeriesDraft {
-    SeriesDraft { pv: 10, f3: 0, m: 1, ..SeriesDraft::checked(type_byte) }
-}
-
-/// Each pair lowers the unit margin, and is one more line to round up.
+/// Each pair lowers the unit margin, and is one more line to round up: together
+/// they raise the total, and all but 1 of the 50 and 5 of the 255 by 100 each.
 fn pairs_that_raise_the_total(cases: &mut Cases, type_byte: u8) {
     let strike = if type_byte == CALL { 11 } else { 9 };
     for pairs in [1, 2, 4, 49, 50, 255] {
         let mut rows = vec![written(0, 10, pairs + 1)];
         rows.extend((0..pairs).map(|_| held(0, strike, 1)));
-        let name = format!("{pairs} pairs that raise the total, type {type_byte}");
-        cases.accept(name, Draft::new(vec![at_ten(type_byte)], rows));
+        let name = format!("{pairs} pairs that together raise the total, type {type_byte}");
+        cases.accept(name, Draft::new(vec![SeriesDraft::at_ten(type_byte)], rows));
     }
 }
 
@@ -113,14 +108,14 @@ fn many_small_lines(cases: &mut Cases, type_byte: u8) {
     for (name, quantity) in [("one centavo", 1), ("99 centavos", 99), ("101 centavos", 101)] {
         let rows = vec![written(0, one_tick, quantity); 256];
         let name = format!("256 rows of {name}, type {type_byte}");
-        cases.accept(name, Draft::new(vec![at_ten(type_byte)], rows));
+        cases.accept(name, Draft::new(vec![SeriesDraft::at_ten(type_byte)], rows));
     }
-    let least = SeriesDraft { pv: 1, fa: 1_000_001, fb: 999_999, ..at_ten(type_byte) };
+    let least = SeriesDraft { pv: 1, fa: 1_000_001, fb: 999_999, ..SeriesDraft::at_ten(type_byte) };
     let name = format!("256 rows of one fine unit, type {type_byte}");
     cases.accept(name, Draft::new(vec![least], vec![written(0, 1, 1); 256]));
     let rows = [written(0, 10, 1), held(0, one_tick, 1)].repeat(128);
     let name = format!("128 pairs of one centavo, type {type_byte}");
-    cases.accept(name, Draft::new(vec![at_ten(type_byte)], rows));
+    cases.accept(name, Draft::new(vec![SeriesDraft::at_ten(type_byte)], rows));
 }
 
 /// Premiums that are no multiples of 100, of rows in pairs, in part and alone.
@@ -135,7 +130,7 @@ fn premiums(cases: &mut Cases, type_byte: u8) {
         ];
         for (name, rows) in accounts {
             let name = format!("premium {premium}, {name}, type {type_byte}");
-            cases.accept(name, Draft::new(vec![at_ten(type_byte)], rows));
+            cases.accept(name, Draft::new(vec![SeriesDraft::at_ten(type_byte)], rows));
         }
     }
 }
@@ -166,7 +161,7 @@ fn nothing_to_call(cases: &mut Cases, type_byte: u8) {
         ("held rows", vec![held(0, 10, 9), held(0, 11, 9)]),
     ] {
         let name = format!("nothing to call, {name}, type {type_byte}");
-        cases.accept(name, Draft::new(vec![at_ten(type_byte)], rows));
+        cases.accept(name, Draft::new(vec![SeriesDraft::at_ten(type_byte)], rows));
     }
 }
 
