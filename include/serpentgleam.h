@@ -16,8 +16,8 @@
  * An account file has at most 65,536 bytes. Any bytes may be handed over: a file that is not in order is refused, and
  * nothing is read or written outside it. With length 0 the pointer may be NULL.
  *
- * Amounts are in centavos, as whole numbers. The margin of a written position by itself and the amount of a line are
- * rounded up to whole reais, multiples of 100, each by itself and once. Premiums are exact. Before version 0.6.0 they were
+ * Amounts are in centavos, as whole numbers. Premiums are exact. The margin of a written position by itself and the amount
+ * of a line are rounded up to whole reais, multiples of 100, each by itself and once. Before version 0.6.0 these two were
  * rounded up to one centavo: with the same calls, structs and shared object's name, the amount of a line or of a written
  * position is now 0 to 99 centavos more. Which library is installed is said by `pkg-config --modversion serpentgleam`.
  *

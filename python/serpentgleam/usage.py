@@ -13,9 +13,9 @@ COMMAND = '''usage: serpentgleam COMMAND ..
   COMMAND --help         what a command takes
   --version
 
-Amounts are in centavos: those of lines and of written positions are rounded up to whole reais, multiples of 100, premiums
-are exact, totals not rounded. Factors are whole millionths; rows are counted from 0. Status 0: all accepted; 1: something refused or faulty; 2: a wrong word, or a
-file that cannot be read or written.
+Amounts are in centavos: those of lines and of written positions are rounded up to whole reais, multiples of 100,
+premiums are exact, totals not rounded. Factors are whole millionths; rows are counted from 0. Status 0: all accepted;
+1: something refused or faulty; 2: a wrong word, or a file that cannot be read or written.
 '''
 
 CSV_AND_OUTPUT = '''  --csv                  CSV, the first row names the fields
