@@ -50,7 +50,9 @@ exactAmount a x =
     cond (eqb (x .kind) 1) (exactOfPair a (x .secondNumber) (x .thirdNumber) (x .fourthNumber))
     (exactOfRow a (x .secondNumber) (x .thirdNumber))
 
--- "premium × M × Q, exact", of a held row, 0 if written.
+-- "premium × M × Q, exact", of a held row, 0 if written. `Lines.heldPremium` and `OnePosition.amountBySide` say it for
+-- the total and for one position; here it is said apart from them, so that a rounding in either contradicts what is
+-- promised below.
 abbrev pub exactPremium : Side → Series → Position → ℕ
 exactPremium Held s p = p .premium * s .m * p .q
 exactPremium Written s p = 0
