@@ -23,5 +23,6 @@ pub fn refusal_number(why: Refusal) -> u32
         Refusal::FactorsAskedFor => 14,
         Refusal::SeriesAskedFor => 16,
         Refusal::DayPrices => 17,
+        Refusal::NotFirstPairs => 18,
     }
 }

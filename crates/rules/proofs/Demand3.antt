@@ -10,6 +10,7 @@ use native.Mathlib.Omega.{arith}
 use lib.Dec.{ltb}
 use lib.ListN.{length}
 use Rattle.rules.proofs.AccountCover as AccountCover
+use Rattle.rules.proofs.AccountCover.{PairsCovered, RowsCovered}
 use Rattle.rules.proofs.Cover.{covers}
 use Rattle.rules.proofs.Least.{least-for}
 use Rattle.rules.proofs.MayPair.{may-pairable, no-flag-16}
@@ -21,7 +22,7 @@ use Rattle.rules.specs.File.{Account, accountOf, layout, positionOf, pos
 use Rattle.rules.specs.Limits.{FileWithin}
 use Rattle.rules.specs.Lines.{lines, linesFor, linesGiven, marginAnswer, marginForList, total}
 use Rattle.rules.specs.Paths.{payment}
-use Rattle.rules.specs.Promises.{ContractsDemand, Cover, CoverDemand, Least, LeastDemand, LowFactors, UnmadeDemand}
+use Rattle.rules.specs.Promises.{ContractsDemand, CoverDemand, Least, LeastDemand, LowFactors, UnmadeDemand}
 use Rattle.rules.specs.Refusals.{accepted, fileRead, meaning, meant}
 use Rattle.rules.specs.declared.FileRead.{FileRead}
 use Rattle.rules.specs.declared.FileRead.the-variants.{Accepted, Refused}
@@ -43,34 +44,45 @@ module _ (b : List ℕ) (h : FileWithin b) (factors : LowFactors (accountOf b (l
       (rebate-none within)
       (flag-16-keeps within)
 
-  cover-within : Cover (accountOf b (layout b))
+  rows-within : RowsCovered (accountOf b (layout b))
   unfolding layout
-  cover-within =
-      AccountCover.cover (accountOf b (layout b))
-      (λ path each r there written.
+  rows-within path each r there written =
       let row = positionRow b (layout b) r in
       let below = h .position-rows r there .series-below in
       covers (seriesOf (seriesRow b (layout b) (row .series))) (positionOf row)
       (h .series-rows (row .series) below .fa-least)
       (factors (row .series) below)
       (path (row .series))
-      (each (row .series) below))
-      (λ path each w g there held may u e.
+      (each (row .series) below)
+
+  pairs-within : PairsCovered (accountOf b (layout b))
+  unfolding layout
+  pairs-within path each w g there held may u e =
       let a : Account = accountOf b (layout b) in
       let i = a .positionAt w .series in
       let below = h .position-rows w there .series-below in
       let pair = may-pairable a w g may in
       subst (λ (j : ℕ). payment (seriesOfRow a w) (a .positionAt w) (path i) ≤ u + payment (a .seriesAt j) (a .positionAt g) (path j)) (pair .one-series)
-      (pair-covers (seriesOfRow a w) (a .positionAt g) (a .positionAt w) u (no-flag-16 (a .positionAt g) (pair .held-may)) (no-flag-16 (a .positionAt w) (pair .written-may)) e (path i) (each i below)))
+      (pair-covers (seriesOfRow a w) (a .positionAt g) (a .positionAt w) u (no-flag-16 (a .positionAt g) (pair .held-may)) (no-flag-16 (a .positionAt w) (pair .written-may)) e (path i) (each i below))
+
+-- Each written row is covered by its unit margin, and each pair by its spread.
+module _ (b : List ℕ) (a : Account) (e : meaning b ≡ accepted a) (factors : LowFactors a) where
+  pub rows-covered : RowsCovered a
+  rows-covered =
+      let known = accepted-within b a e in
+      subst RowsCovered (sym (known .1)) (rows-within b (known .0) (subst LowFactors (known .1) factors))
+
+  pub pairs-covered : PairsCovered a
+  pairs-covered =
+      let known = accepted-within b a e in
+      subst PairsCovered (sym (known .1)) (pairs-within b (known .0) (subst LowFactors (known .1) factors))
 
 -- "The cover, where every fb is at most 1,000,000: for every choice of one path for each series, total × 1,000,000 plus
 -- what the pairs bring in is at least what the written rows pay out. All rows of a series follow its path. A written row
 -- pays out its payment × M × Q. A pair brings in its held row's payment × M × the pair's quantity. Both are summed over
 -- the whole account; held contracts outside the pairs bring in nothing."
 pub cover : (b : List ℕ) → CoverDemand b
-cover b a e factors =
-    let known = accepted-within b a e in
-    subst Cover (sym (known .1)) (cover-within b (known .0) (subst LowFactors (known .1) factors))
+cover b a e factors = AccountCover.cover a (rows-covered b a e factors) (pairs-covered b a e factors)
 
 -- "Contracts: for every row, the quantities of the pair lines that name it and the quantity of its left line (0 if it
 -- has none) add up to Q."

@@ -62,3 +62,8 @@ pub mod DayFile
 pub mod DayPromises
 pub mod DayAnswers
 pub mod DayTables
+-- Pairing in instalments (document 02 [7]).
+pub mod InstalmentLaws
+pub mod InstalmentAnswers
+pub mod InstalmentPromises
+pub mod InstalmentTables

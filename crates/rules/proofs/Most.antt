@@ -23,10 +23,11 @@ use Rattle.rules.proofs.Tests.{lt-or-ge}
 use Rattle.rules.proofs.Weights.{Sound, made-sound}
 use Rattle.rules.specs.File.{Account, accountOf, layout, positionCount, positionRow, seriesOfRow}
 use Rattle.rules.specs.Limits.{FileWithin, mostPositions}
-use Rattle.rules.specs.Lines.{Each, heldPremium, leftAmount, leftAmountAt, lineAmount, lines, premiumAt, premiums, spreadAmount, sumOver, sumTo, total}
+use Rattle.rules.specs.Lines.{Each, heldPremium, leftAmount, leftAmountAt, lineAmount, lines, premiumAt, premiums, spreadAmount, sumOver, sumTo, total, totalAfter}
 use Rattle.rules.specs.OnePosition.{amountBySide, amountOf, positionAmount, premiumOf, unitMargin}
 use Rattle.rules.specs.Pairs.{Made, available, bookOf, contractsAfter, pairsAfter}
 use Rattle.rules.specs.Reais.{MostDemand, WithinMost, mostAmount, mostTotal}
+use Rattle.rules.specs.Refusals.{accepted, meaning}
 use Rattle.rules.specs.declared.Barrier.the-variants.{NoBarrier}
 use Rattle.rules.specs.declared.Limiter.the-variants.{NoLimiter}
 use Rattle.rules.specs.declared.OptionType.the-variants.{Call}
@@ -67,17 +68,11 @@ module _ (s : Series) (p : Position) (f : RowMost s p) where
   left-most Written q l = omega (arith, amount-most _ _ q (f .unit-most) (f .m-most) (omega (arith, f .q-most)))
 
 module _ (a : Account) where
-  abbrev pairs : List Made
-  pairs = pairsAfter a (a .positions)
-
-  abbrev left : ℕ → ℕ
-  left = contractsAfter a (a .positions)
-
   abbrev held : ℕ → ℕ
   held r = heldOnce (a .positionAt r .side)
 
-  sound : Each (Sound (bookOf a)) pairs
-  sound = made-sound (bookOf a) (available a) (a .positions)
+  sound : (n : ℕ) → Each (Sound (bookOf a)) (pairsAfter a n)
+  sound = made-sound (bookOf a) (available a)
 
   -- Without a held row there is no pair.
   none-paired : sumTo held (a .positions) ≡ 0 → (l : List Made) → Each (Sound (bookOf a)) l → l ≡ []
@@ -110,13 +105,16 @@ module _ (a : Account) (rows : (r : ℕ) → r < a .positions → RowMost (serie
   lines-most : Each (λ x. lineAmount x ≤ mostAmount) (lines a)
   lines-most =
       rw (lines-are a)
-      (each-line a (λ x. lineAmount x ≤ mostAmount) (pairs a) (left a) (a .positions) spreads
-      (λ r l. omega (arith, row-most r l (left a r) (left-falls (bookOf a) (available a) (a .positions) r))))
+      (each-line a (λ x. lineAmount x ≤ mostAmount) pairs (contractsAfter a (a .positions)) (a .positions) spreads
+      (λ r l. omega (arith, row-most r l (contractsAfter a (a .positions) r) (left-falls (bookOf a) (available a) (a .positions) r))))
     where
-      spreads : Each (λ m. spreadAmount a m ≤ mostAmount) (pairs a)
+      pairs : List Made
+      pairs = pairsAfter a (a .positions)
+
+      spreads : Each (λ m. spreadAmount a m ≤ mostAmount) pairs
       spreads =
-          each-both spread-most (pairs a) (sound a)
-          (quantities-most a (pairs a) (λ r. omega (arith, made-left (bookOf a) (available a) (a .positions) r)))
+          each-both spread-most pairs (sound a (a .positions))
+          (quantities-most a pairs (λ r. omega (arith, made-left (bookOf a) (available a) (a .positions) r)))
 
   -- All rows without pairs, with their premiums.
   rows-most : sumTo (λ r. leftAmountAt a r (available a r)) (a .positions) + sumTo (premiumAt a) (a .positions) + 100 * mostPositions * sumTo (held a) (a .positions)
@@ -132,52 +130,68 @@ module _ (a : Account) (rows : (r : ℕ) → r < a .positions → RowMost (serie
       )
 
   -- Pairs are at most p, and none where there is no held row.
-  pairs-most : length (pairs a) ≤ mostPositions * sumTo (held a) (a .positions)
-  pairs-most = by-held (lt-or-ge 0 (sumTo (held a) (a .positions)))
+  pairs-most : (n : ℕ) → length (pairsAfter a n) ≤ mostPositions * sumTo (held a) (a .positions)
+  pairs-most n = by-held (lt-or-ge 0 (sumTo (held a) (a .positions)))
     where
-      by-held : (0 < sumTo (held a) (a .positions)) ⊎ (sumTo (held a) (a .positions) ≤ 0) → length (pairs a) ≤ mostPositions * sumTo (held a) (a .positions)
-      by-held (inl some) = omega (arith, bound (bookOf a) (available a) (a .positions))
-      by-held (inr none) = omega (arith, ap length (none-paired a (omega arith) (pairs a) (sound a)))
+      by-held : (0 < sumTo (held a) (a .positions)) ⊎ (sumTo (held a) (a .positions) ≤ 0)
+          → length (pairsAfter a n) ≤ mostPositions * sumTo (held a) (a .positions)
+      by-held (inl some) = omega (arith, bound (bookOf a) (available a) n)
+      by-held (inr none) = omega (arith, ap length (none-paired a (omega arith) (pairsAfter a n) (sound a n)))
+
+  -- After any number of rounds.
+  after-most : (n : ℕ) → totalAfter a n ≤ mostTotal
+  unfolding premiums
+  after-most n =
+      omega (arith, amounts a (pairsAfter a n) (contractsAfter a n) (a .positions), sums-raised a n, rows-most, pairs-most n)
 
   total-most : total a ≤ mostTotal
-  unfolding premiums
-  total-most =
-      rw (total-is a)
-      (omega (arith, amounts a (pairs a) (left a) (a .positions), sums-raised a (a .positions), rows-most, pairs-most))
+  total-most = rw (total-is a) (after-most (a .positions))
+
+rows-of-file : (b : List ℕ) → FileWithin b → (r : ℕ) → r < positionCount b
+    → RowMost (seriesOfRow (accountOf b (layout b)) r) (accountOf b (layout b) .positionAt r)
+unfolding layout
+rows-of-file b h r l =
+    let p = h .position-rows r l in
+    let s = h .series-rows (positionRow b (layout b) r .series) (p .series-below) in
+    record { unit-most = unit-most s p; m-most = s .m-most; q-most = p .q-most; premium-most = p .premium-most }
 
 most-of-file : (b : List ℕ) → FileWithin b → WithinMost (accountOf b (layout b))
 unfolding layout positionAmount
 most-of-file b h =
     let a : Account = accountOf b (layout b) in
     record {
-      position-most = λ r l. side-most (seriesOfRow a r) (a .positionAt r) (rows r l) (a .positionAt r .side);
-      line-most = lines-most a rows (h .trailer .positions-most);
-      total-most = total-most a rows (h .trailer .positions-most);
+      position-most = λ r l. side-most (seriesOfRow a r) (a .positionAt r) (rows-of-file b h r l) (a .positionAt r .side);
+      line-most = lines-most a (rows-of-file b h) (h .trailer .positions-most);
+      total-most = total-most a (rows-of-file b h) (h .trailer .positions-most);
     }
-  where
-    rows : (r : ℕ) → r < positionCount b → RowMost (seriesOfRow (accountOf b (layout b)) r) (accountOf b (layout b) .positionAt r)
-    rows r l =
-        let p = h .position-rows r l in
-        let s = h .series-rows (positionRow b (layout b) r .series) (p .series-below) in
-        record { unit-most = unit-most s p; m-most = s .m-most; q-most = p .q-most; premium-most = p .premium-most }
 
 pub within-most : (b : List ℕ) → MostDemand b
 within-most b a e =
     let known = accepted-within b a e in
     subst WithinMost (sym (known .1)) (most-of-file b (known .0))
 
+-- The amount after any number of pairs is no larger (document 02 [7]).
+pub within-most-after : (b : List ℕ) (a : Account) → meaning b ≡ accepted a → (n : ℕ) → totalAfter a n ≤ mostTotal
+unfolding layout
+within-most-after b a e n =
+    let known = accepted-within b a e in
+    subst (λ (x : Account). totalAfter x n ≤ mostTotal) (sym (known .1))
+    (after-most (accountOf b (layout b)) (rows-of-file b (known .0)) (known .0 .trailer .positions-most) n)
+
 -- An account without held rows: each written row has its own line, with all its contracts.
 no-held-total : (a : Account) → sumTo (held a) (a .positions) ≡ 0
     → total a ≡ sumTo (λ r. leftAmountAt a r (available a r)) (a .positions) + premiums a
 unfolding sumOver
 no-held-total a none =
-    let empty = none-paired a none (pairs a) (sound a) in
+    let pairs = pairsAfter a (a .positions) in
+    let left = contractsAfter a (a .positions) in
+    let empty = none-paired a none pairs (sound a (a .positions)) in
     rw (total-is a)
     (omega (
       arith,
-      amounts a (pairs a) (left a) (a .positions),
+      amounts a pairs left (a .positions),
       ap (sumOver (spreadAmount a)) empty,
-      sumTo-same (λ r. leftAmountAt a r (left a r)) (λ r. leftAmountAt a r (available a r)) (a .positions)
+      sumTo-same (λ r. leftAmountAt a r (left r)) (λ r. leftAmountAt a r (available a r)) (a .positions)
           (λ r l. ap (leftAmountAt a r) (omega (arith, made-left (bookOf a) (available a) (a .positions) r, ap (sumOver (named r)) empty))),
     ))
 

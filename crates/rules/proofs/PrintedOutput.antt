@@ -19,7 +19,7 @@ rowBytes side q pe premium =
     (0 ∷ 0 ∷ side ∷ 0 ∷ 4 ∷ 0 ∷ 0 ∷ 0 ∷ []) ++ bytes4 q ++ bytes4 pe ++ bytes4 0 ++ bytes4 0 ++ bytes4 0 ++ bytes4 premium
 
 -- "Call series; row 0 written PE 3100 Q 10; row 1 held PE 3250 Q 4; row 2 held PE 3000 Q 3 premium 20; all European."
-abbrev example : List ℕ
+abbrev pub example : List ℕ
 example = seriesBytes 3000 0 ++ rowBytes 1 10 3100 0 ++ rowBytes 0 4 3250 0 ++ rowBytes 0 3 3000 20 ++ trailerBytes 1 3 (span 1 3) 0
 
 pub printed :

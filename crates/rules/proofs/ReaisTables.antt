@@ -29,7 +29,7 @@ writtenRow = seriesRowBytes 10 1_200_000 800_000 0 1 0 0 ++ rowBytes 0 1 0 4 2 1
 abbrev alone : List ℕ
 alone = writtenRow ++ trailerBytes 1 1 (span 1 1) 0
 
-abbrev paired : ℕ → List ℕ
+abbrev pub paired : ℕ → List ℕ
 paired premium = writtenRow ++ rowBytes 0 0 0 4 1 11 0 0 0 premium ++ trailerBytes 1 2 (span 1 2) 0
 
 -- Each line is rounded up by itself, so that a pair can raise the total: 4 centavos by themselves are 100; 1 centavo for

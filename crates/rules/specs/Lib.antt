@@ -15,3 +15,5 @@ pub mod Writing
 pub mod Day
 -- Document 02 [6].
 pub mod Reais
+-- Document 02 [7].
+pub mod Instalments

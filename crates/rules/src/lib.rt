@@ -144,6 +144,7 @@ pub enum Refusal {
     FactorsAskedFor,
     SeriesAskedFor,
     DayPrices,
+    NotFirstPairs,
 }
 
 // What the checks of the trailer, of a row or of a day find.
@@ -205,6 +206,12 @@ pub struct Day {
 pub enum DayAnswer {
     Applied,
     NotApplied(Refusal, usize),
+}
+
+// A call of the pairing in instalments: how many pairs it made, or the refusal with its row.
+pub enum PairAnswer {
+    Paired(usize),
+    NotPaired(Refusal, usize),
 }
 
 // A file's margin: how many lines and the total in centavos, or the refusal with its row.
