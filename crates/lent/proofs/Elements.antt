@@ -3,8 +3,6 @@
 --     elem-is          what is known of element i
 --     look-elem        `Types/Run.antt`'s `look` for element i of the row that is entry n: the context stays
 --     store-elem       its `store`: the row is then the list with y at i
--- Nothing reads an element yet: `elem-is` and `look-elem` wait for request 7, whose refusal 18 compares the lines in the
--- list with the account's first pairs.
 use mathlib.Core.Path.{_≡_, refl, sym, subst}
 use Prim.Native.Nat.{ℕ, _<_}
 use mathlib.Core.List.{List, [], _∷_}

@@ -1,6 +1,8 @@
--- Laws of the entries that are written into a list: over plain lists and numbers.
+-- Laws of the entries that are compared with lines of the numbers and of those that are written into a list: over plain
+-- lists and numbers.
 -- Assumes nothing.
 use Prim.Native.Nat.{ℕ, zero, suc, _+_, _-_, _<_, _≤_}
+use mathlib.Core.Bool.{true, _&&_}
 use mathlib.Core.List.{List, [], _∷_, _++_}
 use mathlib.Core.Path.{_≡_, refl, sym, ap, _∙_, subst}
 use native.Mathlib.Nat.{suc-add, zero-add}
@@ -9,8 +11,10 @@ use native.Mathlib.Omega.{arith}
 use lib.ListN.{length, set, drop, take, getD, length-append, length-drop, take-append-drop}
 use lib.Seq.{append-snoc, drop-at, drop-cons, drop-set-add, length-take-le, set-at}
 use Rattle.lent.specs.Entries.{entriesWritten}
-use Rattle.lines.proofs.LinesHeld.{lines-count}
+use Rattle.lines.proofs.LinesHeld.{lines-count, lines-more}
 use Rattle.lines.specs.LineNumbers.{lineFrom, linesFrom}
+use Rattle.rules.proofs.InstalmentLaws.{begins-more, begins-none}
+use Rattle.rules.specs.Instalments.{beginsWith, sameLine}
 use Rattle.rules.specs.declared.Line.{Line}
 
 -- A store behind the first part of a list is a store into its second part.
@@ -72,3 +76,16 @@ module _ (numbers : List ℕ) where
 
         place : m + (n - m) ≡ n
         place = omega (arith, l)
+
+-- The list begins with no lines of the numbers, and with one more where its next entry is that line.
+module _ (numbers : List ℕ) (ys : List Line) where
+  pub alike-none : true ≡ beginsWith (linesFrom numbers 0) ys
+  unfolding linesFrom
+  alike-none = sym (begins-none ys)
+
+  pub alike-more : (i : ℕ) (d : Line) → i < length ys
+      → (beginsWith (linesFrom numbers i) ys && sameLine (lineFrom numbers i) (getD ys i d)) ≡ beginsWith (linesFrom numbers (i + 1)) ys
+  alike-more i d l =
+      ap (λ (k : ℕ). beginsWith (linesFrom numbers i) ys && sameLine (lineFrom numbers i) (getD ys k d)) (sym (lines-count numbers i))
+      ∙ sym (begins-more (linesFrom numbers i) (lineFrom numbers i) d ys (subst (λ (k : ℕ). k < length ys) (sym (lines-count numbers i)) l))
+      ∙ ap (λ (x : List Line). beginsWith x ys) (sym (lines-more numbers i))

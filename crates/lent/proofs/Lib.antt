@@ -15,6 +15,7 @@ pub mod Zeros
 pub mod Literal
 pub mod Counting
 pub mod Several
--- Laws of the entries that are written, and the call of the function that writes them.
+-- Laws of the entries that are compared and written, and the calls of the functions that compare and write them.
 pub mod EntryLaws
+pub mod AgreeCall
 pub mod WriteCall

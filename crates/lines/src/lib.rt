@@ -3,8 +3,10 @@ use rules::Line;
 use rules::MOST_LINES;
 ghost use Prim.Native.Nat.{_+_, _*_, _≤_};
 ghost use lib.ListN.{length};
+ghost use mathlib.Core.Bool.{_&&_};
 ghost use mathlib.Core.Path.{_≡_};
 ghost use Rattle.lines.specs.LineNumbers.{LineWritten, Packable, lineFrom, numbersPerLine};
+ghost use Rattle.rules.specs.Instalments.{sameLine};
 
 // The numbers of one line, `numbersPerLine` in contracts.
 pub const NUMBERS_PER_LINE: usize = 3;
@@ -26,6 +28,20 @@ pub fn line_at(numbers: &[u64], i: usize) -> Line
         fourthNumber: numbers[at + 1],
         fifthNumber: numbers[at + 2],
     }
+}
+
+// Whether the lines before line i are the same, and line i of the numbers has the same five numbers as this line.
+pub fn same_too(before: bool, numbers: &[u64], i: usize, line: Line) -> bool
+    requires { ⌜ numbersPerLine * i + numbersPerLine ≤ length (now numbers) ⌝ }
+    ensures { λ r. ⌜ r ≡ (before && sameLine (lineFrom (now (numbers .entry)) i) line) ⌝ }
+{
+    let own = line_at(numbers, i);
+    let same = (own.kind == line.kind)
+        & (own.secondNumber == line.secondNumber)
+        & (own.thirdNumber == line.thirdNumber)
+        & (own.fourthNumber == line.fourthNumber)
+        & (own.fifthNumber == line.fifthNumber);
+    before & same
 }
 
 // Line k written as three numbers.

@@ -3,19 +3,24 @@
 -- Assumes nothing.
 use Prim.Native.Nat.{ℕ, _+_, _≤_, _<_, min}
 use mathlib.Core.List.{List, _++_}
-use mathlib.Core.Path.{_≡_, refl, sym, ap, ap₂, _∙_}
+use mathlib.Core.Path.{_≡_, sym, ap, ap₂, subst, _∙_}
+use native.Mathlib.Nat.{add-zero}
 use native.Mathlib.Omega.{arith}
-use lib.ListN.{length, length-append, replicate, getD-replicate, length-replicate}
+use lib.ListN.{length, take, length-append, replicate, getD-replicate, length-replicate}
+use lib.Seq.{take-at}
 use borrow.Author.Tests.{le-ltb, lt-ltb}
 use Rattle.account.proofs.KnownRows.{known, position-within}
 use Rattle.account.specs.Known.{Known}
 use Rattle.numbers.specs.Lists.{nth}
-use Rattle.pairing.specs.Pairing.{Paired, PairedUp, PairingAsked}
+use Rattle.pairing.specs.Pairing.{PairedBy, PairedUp, PairingAsked}
+use Rattle.pairing.specs.declared.Instalment.{Instalment}
 use Rattle.pairing.specs.declared.Tally.{Tally}
+use Rattle.lines.proofs.LinesHeld.{take-lines}
 use Rattle.lines.specs.LineNumbers.{linesFrom, mostNumbers}
 use Rattle.lines_and_total.proofs.ListingLaws.{left-same}
-use Rattle.lines_and_total.specs.Listing.{AccountListed, Added, ContractsTo, RowsAsked}
+use Rattle.lines_and_total.specs.Listing.{AccountListed, Added, ContractsTo, PairsListed, RowsAsked}
 use Rattle.lines_and_total.specs.Settled.{Settled}
+use Rattle.lines_and_total.specs.declared.Listed.{Listed}
 use Rattle.rules.specs.Output.{premiumsFor}
 use Rattle.rules.proofs.Answers.{answer-read, given-read}
 use Rattle.rules.proofs.Counts.{bound, openRows}
@@ -23,12 +28,13 @@ use Rattle.rules.proofs.LineLaws.{length-pairLines, line-count, lines-are, sum-
 use Rattle.rules.proofs.Rounds.{left-falls}
 use Rattle.rules.proofs.Sums.{sumOver-append, sumTo-same}
 use Rattle.rules.specs.File.{Account, accountOf}
-use Rattle.rules.specs.Lines.{leftLines, lineAmount, lines, pairLines, premiumAnswer, premiums, premiumsOf, sumOver, total}
+use Rattle.rules.specs.Lines.{leftLines, lineAmount, lines, linesAfter, pairLines, premiumAnswer, premiums, premiumsOf, sumOver, total}
 use Rattle.rules.specs.Pairs.{available, bookOf, contractsAfter, pairsAfter}
 use Rattle.rules.specs.Refusals.{fileRead}
 use Rattle.rules.specs.declared.FileRead.{FileRead}
 use Rattle.rules.specs.declared.FileRead.the-variants.{Accepted, Refused}
 use Rattle.rules.specs.declared.Layout.{Layout}
+use Rattle.rules.specs.declared.Line.{Line}
 use Rattle.rules.specs.declared.MarginAnswer.the-variants.{NoTotal, Total}
 use Rattle.rules.specs.declared.Refusal.{Refusal}
 use Rattle.rules.specs.declared.Refusal.the-variants.{ListTooShort}
@@ -48,11 +54,11 @@ pairing-asks b l left numbers k el en f =
       contracts = f;
     }
 
--- What the rows left ask, after all pairs.
-pub rows-ask : (b : List ℕ) (l : Layout) (table left n : List ℕ) (t : Tally) → Known b l → length left ≡ 256 → length n ≡ mostNumbers
-    → PairedUp (accountOf b l) table left n t → RowsAsked b l table left n t
+-- What the rows left ask, after n rounds.
+pub rows-ask : (b : List ℕ) (l : Layout) (n : ℕ) (table left numbers : List ℕ) (r : Instalment) → Known b l → length left ≡ 256 → length numbers ≡ mostNumbers
+    → PairedUp (accountOf b l) n 0 table left numbers r → RowsAsked b l table left numbers (r .pairs)
 unfolding openRows
-rows-ask b l table left n t k el en up =
+rows-ask b l n table left numbers r k el en up =
     let a = accountOf b l in
     let p = up .paired in
     record {
@@ -60,45 +66,67 @@ rows-ask b l table left n t k el en up =
       table-room = up .room;
       units = up .units;
       lefts = omega (arith, k .placed .positions-most);
-      left-most = λ r h. omega (arith, p .left-is r h, left-falls (bookOf a) (available a) (l .positions) r, position-within b l k r h .q-most);
+      left-most = λ i h. omega (arith, p .left-is i h, left-falls (bookOf a) (available a) (n + 0) i, position-within b l k i h .q-most);
       room = omega arith;
       few =
           omega (
             arith,
             p .count-is,
             k .placed .positions-most,
-            bound (bookOf a) (available a) (l .positions),
-            sumTo-same (λ r. min 1 (nth left r)) (λ r. min 1 (contractsAfter a (l .positions) r)) (l .positions) (λ r h. ap (min 1) (p .left-is r h)),
+            bound (bookOf a) (available a) (n + 0),
+            sumTo-same (λ i. min 1 (nth left i)) (λ i. min 1 (contractsAfter a (n + 0) i)) (l .positions) (λ i h. ap (min 1) (p .left-is i h)),
           );
       total-most = p .total-most;
     }
 
--- All lines, once the rows left are written after the pairs.
-pub account-listed : (b : List ℕ) (l : Layout) (left n n′ : List ℕ) (t : Tally) (t′ : Tally) → Known b l → length n ≡ mostNumbers
-    → Paired (accountOf b l) left n t → Added (leftLines (accountOf b l) (nth left) (l .positions)) n n′ t t′
-    → AccountListed (accountOf b l) n′ t′
-account-listed b l left n n′ t t′ k en p f =
-    let a = accountOf b l in
-    let pairs = pairLines a (pairsAfter a (l .positions)) in
-    let same = left-same a (nth left) (contractsAfter a (l .positions)) (l .positions) (p .left-is) in
-    let all : pairs ++ leftLines a (nth left) (l .positions) ≡ lines a = ap (λ x. pairs ++ x) same ∙ sym (lines-are a) in
-    let count : t′ .count ≡ length (lines a) =
-    omega (arith, f .count-is, p .count-is, length-pairLines a (pairsAfter a (l .positions)), length-append pairs (leftLines a (nth left) (l .positions)), ap length all)
-    in
-    let few : length (lines a) ≤ l .positions = rw (lines-are a) (line-count a (l .positions)) in
+-- Numbers that begin with lines have the lines of fewer too.
+first-lines : (numbers : List ℕ) (k : ℕ) (x y : List Line) (n : ℕ) → linesFrom numbers n ≡ x ++ y → length x ≡ k → k ≤ n → linesFrom numbers k ≡ x
+first-lines numbers k x y n e len h = sym (take-lines numbers k n h) ∙ ap (take k) e ∙ take-at x y k len
+
+-- The lines of the pairs alone.
+pub pairs-listed : (b : List ℕ) (l : Layout) (count allowance : ℕ) (table left numbers : List ℕ) (r : Instalment) → length numbers ≡ mostNumbers
+    → PairedUp (accountOf b l) count allowance table left numbers r → PairsListed (accountOf b l) count allowance numbers r
+pairs-listed b l count allowance table left numbers r en up =
     record {
+      first-is = up .first-is;
+      count-is = up .paired .count-is;
+      lines-are = up .paired .lines-are;
+      numbers-length = en;
+    }
+
+-- All lines after n rounds, once the rows left are written after the pairs.
+pub account-listed : (b : List ℕ) (l : Layout) (n : ℕ) (table left numbers numbers′ : List ℕ) (r : Instalment) (t : Tally) → Known b l → length numbers ≡ mostNumbers
+    → PairedUp (accountOf b l) n 0 table left numbers r → Added (leftLines (accountOf b l) (nth left) (l .positions)) numbers numbers′ (r .pairs) t
+    → AccountListed (accountOf b l) n numbers′ (record { pairs = r .first; lines = t })
+account-listed b l n table left numbers numbers′ r t k en up f =
+    let a = accountOf b l in
+    let p : PairedBy n a left numbers (r .pairs) = subst (λ (m : ℕ). PairedBy m a left numbers (r .pairs)) (add-zero n) (up .paired) in
+    let pairs = pairLines a (pairsAfter a n) in
+    let same = left-same a (nth left) (contractsAfter a n) (l .positions) (p .left-is) in
+    let all : pairs ++ leftLines a (nth left) (l .positions) ≡ linesAfter a n = ap (λ x. pairs ++ x) same in
+    let count : t .count ≡ length (linesAfter a n) =
+    omega (arith, f .count-is, p .count-is, length-pairLines a (pairsAfter a n), length-append pairs (leftLines a (nth left) (l .positions)), ap length all)
+    in
+    let is : linesFrom numbers′ (t .count) ≡ pairs ++ leftLines a (nth left) (l .positions) =
+    f .lines-are ∙ ap (λ x. x ++ leftLines a (nth left) (l .positions)) (p .lines-are)
+    in
+    record {
+      pairs-are = up .first-is;
       count-is = count;
-      lines-are = f .lines-are ∙ ap (λ x. x ++ leftLines a (nth left) (l .positions)) (p .lines-are) ∙ all;
+      lines-are = is ∙ all;
+      pair-lines =
+          first-lines numbers′ (r .first) pairs (leftLines a (nth left) (l .positions)) (t .count) is
+          (length-pairLines a (pairsAfter a n) ∙ sym (up .first-is)) (omega (arith, f .count-is, p .count-is, up .first-is));
       total-is =
           omega (
             arith,
             f .total-is,
             p .total-is,
-            sum-pairs a lineAmount (pairsAfter a (l .positions)),
+            sum-pairs a lineAmount (pairsAfter a n),
             sumOver-append lineAmount pairs (leftLines a (nth left) (l .positions)),
             ap (sumOver lineAmount) all,
           );
-      total-most = omega (arith, f .total-most, f .count-is, p .total-most, count, few, k .placed .positions-most);
+      total-most = omega (arith, f .total-most, f .count-is, p .total-most, count, line-count a n, k .placed .positions-most);
       numbers-length = f .numbers-length ∙ en;
     }
 
@@ -135,10 +163,10 @@ module _ (b : List ℕ) (room : ℕ) (numbers : List ℕ) (en : length numbers �
           numbers-length = en;
         }
 
-    pub settled-total : (n : ℕ) (t : Tally) → l .positions ≤ room → AccountListed (accountOf b l) numbers t → n ≡ premiums (accountOf b l)
-        → Settled b room numbers (Total (t .count) (t .total + n))
+    pub settled-total : (n : ℕ) (r : Listed) → l .positions ≤ room → AccountListed (accountOf b l) (l .positions) numbers r → n ≡ premiums (accountOf b l)
+        → Settled b room numbers (Total (r .lines .count) (r .lines .total + n))
     unfolding total lines
-    settled-total n t h f en′ =
+    settled-total n r h f en′ =
         let a = accountOf b l in
         let s = le-ltb room (l .positions) h in
         let few : length (lines a) ≤ l .positions = rw (lines-are a) (line-count a (l .positions)) in

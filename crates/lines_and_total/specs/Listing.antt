@@ -10,12 +10,14 @@ use Rattle.lanes.specs.Keys.{tableSize}
 use Rattle.lanes.specs.Marks.{Units}
 use Rattle.numbers.specs.Lists.{nth}
 use Rattle.lines.specs.LineNumbers.{linesFrom, mostNumbers}
+use Rattle.lines_and_total.specs.declared.Listed.{Listed}
+use Rattle.pairing.specs.declared.Instalment.{Instalment}
 use Rattle.pairing.specs.declared.Tally.{Tally}
 use Rattle.position.specs.Fits.{RowFits}
 use Rattle.rules.specs.File.{Account, accountOf, seriesOfRow}
-use Rattle.rules.specs.Lines.{leftLine, lineAmount, lines, mostLines, sumOver, sumTo}
+use Rattle.rules.specs.Lines.{leftLine, lineAmount, linesAfter, mostLines, pairLines, sumOver, sumTo}
 use Rattle.rules.specs.OnePosition.{unitMargin}
-use Rattle.rules.specs.Pairs.{available, isWritten}
+use Rattle.rules.specs.Pairs.{available, isWritten, pairsAfter}
 use Rattle.rules.specs.declared.Layout.{Layout}
 use Rattle.rules.specs.declared.Line.{Line}
 use Rattle.rules.specs.declared.Position.{Position}
@@ -75,10 +77,19 @@ pub record RowsAsked (b : List ℕ) (l : Layout) (table left numbers : List ℕ)
   pub few : t .count + sumTo (λ r. min 1 (nth left r)) (l .positions) ≤ mostLines
   pub total-most : t .total ≤ 10_000_000_000_000_000 * t .count
 
--- All lines of the account and the sum of their amounts.
-pub record AccountListed (a : Account) (numbers : List ℕ) (t : Tally) : Type 0 where
-  pub count-is : t .count ≡ length (lines a)
-  pub lines-are : linesFrom numbers (t .count) ≡ lines a
-  pub total-is : t .total ≡ sumOver lineAmount (lines a)
-  pub total-most : t .total ≤ 10_000_000_000_000_000 * mostLines
+-- The lines of the account after `count` rounds of pairing, how many of them are of pairs, and the sum of their amounts.
+pub record AccountListed (a : Account) (count : ℕ) (numbers : List ℕ) (r : Listed) : Type 0 where
+  pub pairs-are : r .pairs ≡ length (pairsAfter a count)
+  pub count-is : r .lines .count ≡ length (linesAfter a count)
+  pub lines-are : linesFrom numbers (r .lines .count) ≡ linesAfter a count
+  pub pair-lines : linesFrom numbers (r .pairs) ≡ pairLines a (pairsAfter a count)
+  pub total-is : r .lines .total ≡ sumOver lineAmount (linesAfter a count)
+  pub total-most : r .lines .total ≤ 10_000_000_000_000_000 * mostLines
+  pub numbers-length : length numbers ≡ mostNumbers
+
+-- The lines of the pairs after `count` rounds and as many more as allowed, and how many there are after each of the two.
+pub record PairsListed (a : Account) (count allowance : ℕ) (numbers : List ℕ) (r : Instalment) : Type 0 where
+  pub first-is : r .first ≡ length (pairsAfter a count)
+  pub count-is : r .pairs .count ≡ length (pairsAfter a (count + allowance))
+  pub lines-are : linesFrom numbers (r .pairs .count) ≡ pairLines a (pairsAfter a (count + allowance))
   pub numbers-length : length numbers ≡ mostNumbers

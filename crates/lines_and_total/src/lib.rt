@@ -2,6 +2,7 @@
 use crate::listing::list_lines;
 use crate::premium::premium_sum;
 use account::reader::read_file;
+use pairing::Tally;
 use rules::AmountAnswer;
 use rules::FileRead;
 use rules::Layout;
@@ -21,6 +22,12 @@ pub mod left;
 pub mod listing;
 pub mod premium;
 
+// How many lines are of pairs, and all lines.
+pub struct Listed {
+    pub pairs: usize,
+    pub lines: Tally,
+}
+
 // The account of an accepted file, or refusal 12 where the caller's list has fewer entries than the file has positions.
 fn settle_accepted(file: &[u8], l: Layout, room: usize, numbers: &mut [u64]) -> MarginAnswer
     requires { ⌜ (fileRead (now file) ≡ Accepted l) × (length (now numbers) ≡ mostNumbers) ⌝ }
@@ -29,7 +36,8 @@ fn settle_accepted(file: &[u8], l: Layout, room: usize, numbers: &mut [u64]) -> 
     if room < l.positions {
         return MarginAnswer::NoTotal(Refusal::ListTooShort, 0);
     }
-    let t = list_lines(file, l, numbers);
+    let listed = list_lines(file, l, l.positions as u64, numbers);
+    let t = listed.lines;
     let total = t.total + premium_sum(file, l);
     MarginAnswer::Total(t.count, total)
 }

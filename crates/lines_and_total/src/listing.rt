@@ -1,8 +1,9 @@
-// All lines of an account.
+// The lines of an account: of its first pairs, and of the rows with contracts left after them.
+use crate::Listed;
 use crate::contracts::fill_contracts;
 use crate::left::left_rows;
 use lanes::TABLE_SIZE;
-use pairing::Tally;
+use pairing::Instalment;
 use pairing::pairs::pair_up;
 use rules::Layout;
 use rules::MOST_POSITIONS;
@@ -10,17 +11,38 @@ ghost use lib.ListN.{length};
 ghost use mathlib.Core.Path.{_≡_};
 ghost use Rattle.account.specs.Known.{Known};
 ghost use Rattle.lines.specs.LineNumbers.{mostNumbers};
-ghost use Rattle.lines_and_total.specs.Listing.{AccountListed};
+ghost use Rattle.lines_and_total.specs.Listing.{AccountListed, PairsListed};
 ghost use Rattle.rules.specs.File.{accountOf};
 
-// The pairs as made, then the rows with contracts left.
-pub fn list_lines(file: &[u8], l: Layout, numbers: &mut [u64]) -> Tally
+// The first `count` pairs as made, or all where there are fewer, then the rows with contracts left after them.
+pub fn list_lines(file: &[u8], l: Layout, count: u64, numbers: &mut [u64]) -> Listed
     requires { ⌜ Known (now file) l × (length (now numbers) ≡ mostNumbers) ⌝ }
-    ensures { λ t. ⌜ AccountListed (accountOf (now (file .entry)) l) (now (numbers .exit)) t ⌝ }
+    ensures { λ r. ⌜ AccountListed (accountOf (now (file .entry)) l) count (now (numbers .exit)) r ⌝ }
 {
     let mut left = [0u64; MOST_POSITIONS];
     fill_contracts(file, l, &mut left);
     let mut table = [0u64; TABLE_SIZE];
-    let pairs = pair_up(file, l, &mut table, &mut left, numbers);
-    left_rows(file, l, &table, &left, numbers, pairs)
+    let made = pair_up(file, l, count, 0, &mut table, &mut left, numbers);
+    let lines = left_rows(file, l, &table, &left, numbers, made.pairs);
+    Listed {
+        pairs: made.first,
+        lines,
+    }
+}
+
+// The first `count` pairs as made, and then as many more as allowed.
+pub fn list_pairs(
+    file: &[u8],
+    l: Layout,
+    count: u64,
+    allowance: u64,
+    numbers: &mut [u64],
+) -> Instalment
+    requires { ⌜ Known (now file) l × (length (now numbers) ≡ mostNumbers) ⌝ }
+    ensures { λ r. ⌜ PairsListed (accountOf (now (file .entry)) l) count allowance (now (numbers .exit)) r ⌝ }
+{
+    let mut left = [0u64; MOST_POSITIONS];
+    fill_contracts(file, l, &mut left);
+    let mut table = [0u64; TABLE_SIZE];
+    pair_up(file, l, count, allowance, &mut table, &mut left, numbers)
 }

@@ -3,29 +3,31 @@
 use Prim.Native.Nat.{ℕ, _+_, _-_, _/_, _%_, _≤_, _<_}
 use mathlib.Core.List.{List, [], _∷_, _++_}
 use mathlib.Core.Path.{_≡_, refl, sym, ap, ap₂, subst, _∙_}
-use native.Mathlib.Nat.{add-sub-of-le}
+use native.Mathlib.Nat.{add-sub-of-le, zero-add}
 use native.Mathlib.Omega.{arith}
 use lib.ListN.{length, length-append}
 use Rattle.account.specs.Known.{Known}
 use Rattle.lanes.proofs.FileFacts.{Ranged, ranged}
 use Rattle.lanes.specs.Keys.{none, tableSize}
+use Rattle.lanes.specs.Marks.{Units}
 use Rattle.numbers.specs.Lists.{nth}
 use Rattle.pairing.proofs.FileFacts.{row-within}
 use Rattle.pairing.proofs.LeastLaws.{least-told, nothing, picked, standings-fall}
 use Rattle.pairing.specs.Standings.{BestRank, Lines, Standings}
-use Rattle.pairing.specs.Pairing.{PairAsked, PairWritten, Paired, PairedBy, PairedUp, pairOf}
+use Rattle.pairing.specs.Pairing.{PairAsked, PairWritten, PairedBy, PairedUp, RoundsMade, pairOf}
 use Rattle.pairing.specs.declared.Tally.{Tally}
 use Rattle.lines.proofs.LinesHeld.{lines-more, lines-same}
 use Rattle.lines.specs.LineNumbers.{linesFrom, mostNumbers}
 use Rattle.rules.proofs.Counts.{bound, open-most, room, taken-most}
+use Rattle.rules.proofs.InstalmentLaws.{after-same, first-count, left-same}
 use Rattle.rules.proofs.LineLaws.{pairLines-append}
 use Rattle.rules.proofs.MayPair.{apart}
-use Rattle.rules.proofs.Rounds.{left-ended, left-falls, left-more, made-ended, made-more}
+use Rattle.rules.proofs.Rounds.{left-falls, left-more, made-ended, made-more}
 use Rattle.rules.proofs.Search.{choice-allowed, choice-same}
 use Rattle.rules.proofs.Sums.{sumOver-append}
 use Rattle.rules.specs.File.{Account, accountOf}
 use Rattle.rules.specs.Lines.{pairLines, spreadAmount, sumOver}
-use Rattle.rules.specs.Pairs.{available, bookOf, choice, leftAfter, madeAfter, madeBy, taken}
+use Rattle.rules.specs.Pairs.{available, bookOf, choice, leftAfter, madeAfter, madeBy, pairsAfter, taken}
 use Rattle.rules.specs.declared.Choice.the-variants.{NoPair, Pair}
 use Rattle.rules.specs.declared.Layout.{Layout}
 
@@ -46,12 +48,47 @@ module _ (a : Account) where
         lines-are = refl;
       }
 
-  -- An account without rows has no pairs.
-  pub no-rows : (table left numbers : List ℕ) → a .positions ≡ 0 → tableSize ≤ length table → PairedUp a table left numbers (tally 0 0)
-  no-rows table left numbers empty room =
+  -- Rounds that make the same pairs.
+  paired-same : (m n : ℕ) (left numbers : List ℕ) (t : Tally) → pairsAfter a m ≡ pairsAfter a n → PairedBy m a left numbers t → PairedBy n a left numbers t
+  paired-same m n left numbers t same f =
       record {
+        count-is = f .count-is ∙ ap length same;
+        total-is = f .total-is ∙ ap (sumOver (spreadAmount a)) same;
+        total-most = f .total-most;
+        left-is = λ r l. f .left-is r l ∙ left-same a m n r same;
+        lines-are = f .lines-are ∙ ap (pairLines a) same;
+      }
+
+  -- The first `count` rounds and then as many as allowed.
+  pub both : (count allowance : ℕ) (table left₁ numbers₁ left numbers : List ℕ) (first t : Tally)
+      → PairedBy (0 + count) a left₁ numbers₁ first → PairedBy (first .count + allowance) a left numbers t → Units a table → tableSize ≤ length table
+      → PairedUp a count allowance table left numbers (record { first = first .count; pairs = t })
+  both count allowance table left₁ numbers₁ left numbers first t f g units room =
+      record {
+        first-is = f .count-is ∙ ap (λ (n : ℕ). length (pairsAfter a n)) (zero-add count);
         paired =
-            subst (λ (n : ℕ). PairedBy n a left numbers (tally 0 0)) (sym empty)
+            paired-same (first .count + allowance) (count + allowance) left numbers t
+            (after-same a (first .count + allowance) (count + allowance)
+            (omega (arith, f .count-is, first-count a (0 + count), first-count a (first .count + allowance), first-count a (count + allowance)))) g;
+        units = units;
+        room = room;
+      }
+
+  -- No more is allowed.
+  pub rounds-over : (left numbers table tree places : List ℕ) (k total n : ℕ) → PairedBy k a left numbers (tally k total)
+      → Standings a left table tree places → k ≡ n → RoundsMade n a left numbers table tree places (tally k total)
+  rounds-over left numbers table tree places k total n f standings e =
+      record { paired = subst (λ (m : ℕ). PairedBy m a left numbers (tally k total)) e f; one-each = f; standings = standings }
+
+  -- An account without rows has no pairs.
+  pub no-rows : (count allowance : ℕ) (table left numbers : List ℕ) → a .positions ≡ 0 → tableSize ≤ length table
+      → PairedUp a count allowance table left numbers (record { first = 0; pairs = tally 0 0 })
+  no-rows count allowance table left numbers empty room =
+      let none : (n : ℕ) → length (pairsAfter a n) ≡ 0 = λ n. omega (arith, bound (bookOf a) (available a) n) in
+      record {
+        first-is = sym (none count);
+        paired =
+            paired-same 0 (count + allowance) left numbers (tally 0 0) (after-same a 0 (count + allowance) (none 0 ∙ sym (none (count + allowance))))
             (began left numbers (λ r l. absurd (omega (arith, empty))));
         units = λ r l. absurd (omega (arith, empty));
         room = room;
@@ -61,21 +98,11 @@ module _ (a : Account) where
     now-choice : choice (bookOf a) (leftAfter (bookOf a) k (available a)) ≡ choice (bookOf a) (nth left)
     now-choice = sym (choice-same (bookOf a) (nth left) (leftAfter (bookOf a) k (available a)) (f .left-is))
 
-    -- After the last round.
-    stopped : choice (bookOf a) (nth left) ≡ NoPair → Paired a left numbers (tally k total)
-    stopped e =
-        let none-left = now-choice ∙ e in
-        let few : k ≤ a .positions = omega (arith, f .count-is, bound (bookOf a) (available a) k) in
-        let all = add-sub-of-le few in
-        let made = ap (λ n. madeAfter (bookOf a) n (available a)) (sym all) ∙ made-ended (bookOf a) k (a .positions - k) (available a) none-left in
-        let rest = ap (λ n. leftAfter (bookOf a) n (available a)) (sym all) ∙ left-ended (bookOf a) k (a .positions - k) (available a) none-left in
-        record {
-          count-is = f .count-is ∙ ap length (sym made);
-          total-is = f .total-is ∙ ap (sumOver (spreadAmount a)) (sym made);
-          total-most = f .total-most;
-          left-is = λ r l. f .left-is r l ∙ ap (λ (g : ℕ → ℕ). g r) (sym rest);
-          lines-are = f .lines-are ∙ ap (pairLines a) (sym made);
-        }
+    -- Where no pair is found, further rounds change nothing.
+    stopped : choice (bookOf a) (nth left) ≡ NoPair → (n : ℕ) → k ≤ n → PairedBy n a left numbers (tally k total)
+    stopped e n few =
+        paired-same k n left numbers (tally k total)
+        (sym (ap (λ m. pairsAfter a m) (sym (add-sub-of-le few)) ∙ made-ended (bookOf a) k (n - k) (available a) (now-choice ∙ e))) f
 
     module _ (w h : ℕ) (e : choice (bookOf a) (nth left) ≡ Pair w h) where
       found : choice (bookOf a) (leftAfter (bookOf a) k (available a)) ≡ Pair w h
@@ -133,10 +160,9 @@ module _ (b : List ℕ) (l : Layout) (known : Known b l) (left numbers table tre
   ok : Known b l
   ok = known
 
-  pub round-stops : none ≤ m → Paired (accountOf b l) left numbers (tally k total)
-  round-stops s =
-      stopped (accountOf b l) k total left numbers f
-      (nothing (accountOf b l) (ranged b l ok) left table tree places lines (best .standings) (rw (best .least) at s))
+  pub round-stops : none ≤ m → (n : ℕ) → k ≤ n → RoundsMade n (accountOf b l) left numbers table tree places (tally k total)
+  round-stops s n few =
+      record { paired = stopped (accountOf b l) k total left numbers f (nothing (accountOf b l) (ranged b l ok) left table tree places lines (best .standings) (rw (best .least) at s)) n few; one-each = f; standings = best .standings }
 
   module _ (s : m < none) where
     picks : choice (bookOf (accountOf b l)) (nth left) ≡ Pair (m / 256 % 256) (m % 256)

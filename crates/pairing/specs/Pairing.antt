@@ -9,13 +9,14 @@ use Rattle.lanes.specs.Keys.{tableSize}
 use Rattle.lanes.specs.Marks.{Units}
 use Rattle.numbers.specs.Lists.{nth}
 use Rattle.pairing.specs.Cursors.{spreadAt}
-use Rattle.pairing.specs.Standings.{RowsAsked, TableNew}
+use Rattle.pairing.specs.Standings.{RowsAsked, Standings, TableNew}
+use Rattle.pairing.specs.declared.Instalment.{Instalment}
 use Rattle.pairing.specs.declared.Tally.{Tally}
 use Rattle.lines.specs.LineNumbers.{lineFrom, linesFrom, mostNumbers, numbersPerLine}
 use Rattle.rules.specs.File.{Account, accountOf}
 use Rattle.rules.specs.Limits.{mostPositions}
 use Rattle.rules.specs.Lines.{pairLine, pairLines, spreadAmount, sumOver}
-use Rattle.rules.specs.Pairs.{Made, available, bookOf, leftAfter, madeAfter, mayOf, taken}
+use Rattle.rules.specs.Pairs.{Made, available, contractsAfter, mayOf, pairsAfter, taken}
 use Rattle.rules.specs.declared.Choice.the-variants.{Pair}
 use Rattle.rules.specs.declared.Layout.{Layout}
 
@@ -56,24 +57,28 @@ pub record PairingAsked (b : List ℕ) (l : Layout) (table left numbers : List �
 
 -- After n rounds, of which `count` made a pair.
 pub record PairedBy (n : ℕ) (a : Account) (left numbers : List ℕ) (t : Tally) : Type 0 where
-  pub count-is : t .count ≡ length (madeAfter (bookOf a) n (available a))
-  pub total-is : t .total ≡ sumOver (spreadAmount a) (madeAfter (bookOf a) n (available a))
+  pub count-is : t .count ≡ length (pairsAfter a n)
+  pub total-is : t .total ≡ sumOver (spreadAmount a) (pairsAfter a n)
   pub total-most : t .total ≤ 10_000_000_000_000_000 * t .count
-  pub left-is : (r : ℕ) → r < a .positions → nth left r ≡ leftAfter (bookOf a) n (available a) r
-  pub lines-are : linesFrom numbers (t .count) ≡ pairLines a (madeAfter (bookOf a) n (available a))
+  pub left-is : (r : ℕ) → r < a .positions → nth left r ≡ contractsAfter a n r
+  pub lines-are : linesFrom numbers (t .count) ≡ pairLines a (pairsAfter a n)
 
--- What a round asks: the rows stand, and what the pairing asks of contracts and room.
-pub record RoundsAsked (b : List ℕ) (l : Layout) (left numbers table tree places : List ℕ) : Type 0 where
+-- What the rounds ask: the rows stand, room for the lines, and the pairs that there are, one of each round.
+pub record RoundsAsked (b : List ℕ) (l : Layout) (left numbers table tree places : List ℕ) (before : Tally) : Type 0 where
   pub rows : RowsAsked b l left table tree places
   pub room : mostNumbers ≤ length numbers
-  pub contracts : (r : ℕ) → r < l .positions → nth left r ≡ available (accountOf b l) r
+  pub paired : PairedBy (before .count) (accountOf b l) left numbers before
 
--- All pairs made: as many rounds as the account has rows.
-abbrev pub Paired : Account → List ℕ → List ℕ → Tally → Type 0
-Paired a = PairedBy (a .positions) a
+-- After n rounds; the rows still stand, for further rounds.
+pub record RoundsMade (n : ℕ) (a : Account) (left numbers table tree places : List ℕ) (t : Tally) : Type 0 where
+  pub paired : PairedBy n a left numbers t
+  pub one-each : PairedBy (t .count) a left numbers t
+  pub standings : Standings a left table tree places
 
--- All pairs made, and the unit margins of the written rows in the table.
-pub record PairedUp (a : Account) (table left numbers : List ℕ) (t : Tally) : Type 0 where
-  pub paired : Paired a left numbers t
+-- The pairs of the first `count` rounds counted, those of as many more as allowed made, and the unit margins of the written
+-- rows in the table.
+pub record PairedUp (a : Account) (count allowance : ℕ) (table left numbers : List ℕ) (r : Instalment) : Type 0 where
+  pub first-is : r .first ≡ length (pairsAfter a count)
+  pub paired : PairedBy (count + allowance) a left numbers (r .pairs)
   pub units : Units a table
   pub room : tableSize ≤ length table

@@ -43,3 +43,9 @@ pub struct Tally {
     pub count: usize,
     pub total: u64,
 }
+
+// The pairs of a call: how many of the first ones asked for there are, and all pairs then.
+pub struct Instalment {
+    pub first: usize,
+    pub pairs: Tally,
+}

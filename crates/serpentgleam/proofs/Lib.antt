@@ -1,6 +1,9 @@
--- The calls of the operation, and what the core settles.
+-- The calls of the operations, and that what the core works out is what they promise.
 pub mod Calls
 pub mod Settling
+pub mod InstalmentCalls
+pub mod Instalments
 -- What a C program is told.
 pub mod AnswerNumbers
 pub mod FactorAnswers
+pub mod InstalmentTold

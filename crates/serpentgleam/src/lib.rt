@@ -3,6 +3,12 @@
 use day::apply_day;
 use factors::FactorsAnswer;
 use factors::factors;
+use instalments::CallLines;
+use instalments::amount_after;
+use instalments::lines_then;
+use instalments::lines_there;
+use instalments::next_pairs;
+use lent::agree;
 use lent::write_entries;
 use lines::MOST_NUMBERS;
 use lines_and_total::line_count;
@@ -16,13 +22,16 @@ use rules::Day;
 use rules::DayAnswer;
 use rules::Line;
 use rules::MarginAnswer;
+use rules::Refusal;
 ghost use lib.ListN.{length};
 ghost use mathlib.Core.Path.{_≡_};
 ghost use Rattle.rules.specs.Day.{dayAnswer, fileAfter};
+ghost use Rattle.rules.specs.Instalments.{amountSoFar, listPaired, pairAnswer};
 ghost use Rattle.rules.specs.Lines.{listAfter, marginAnswer, premiumAnswer};
 ghost use Rattle.rules.specs.OnePosition.{amountAnswer, signedAnswer};
 ghost use Rattle.serpentgleam.specs.DayNumbers.{dayNumbers, dayOf};
 ghost use Rattle.serpentgleam.specs.FactorNumbers.{FactorsTold, factorNumbers};
+ghost use Rattle.serpentgleam.specs.InstalmentNumbers.{pairNumbers, toldNumbers};
 ghost use Rattle.serpentgleam.specs.MarginNumbers.{answerNumbers, marginNumbers};
 
 // A file's margin as numbers, the header's `serpentgleam_result`: 0, 0, the line count and the total in centavos; or the
@@ -91,6 +100,33 @@ fn day_numbers(answer: DayAnswer) -> Answer
             value: 0,
         },
         DayAnswer::NotApplied(why, row) => Answer {
+            refusal: refusal_number(why) as u64,
+            row: row as u64,
+            value: 0,
+        },
+    }
+}
+
+// The numbers of a call of the pairing in instalments: 18 where the list does not begin with its lines.
+fn told(ready: CallLines, same: bool) -> Answer
+    ensures { λ r. ⌜ r ≡ toldNumbers ready same ⌝ }
+{
+    match ready {
+        CallLines::Lines(_, _, value) => {
+            if same {
+                return Answer {
+                    refusal: 0,
+                    row: 0,
+                    value,
+                };
+            }
+            Answer {
+                refusal: refusal_number(Refusal::NotFirstPairs) as u64,
+                row: 0,
+                value: 0,
+            }
+        }
+        CallLines::NoLines(why, row) => Answer {
             refusal: refusal_number(why) as u64,
             row: row as u64,
             value: 0,
@@ -186,4 +222,38 @@ pub extern "C" fn serpentgleam_day(
     };
     let answer = apply_day(file, d);
     day_numbers(answer)
+}
+
+// The next pairs of the file, as many as allowed, after the `count` pair lines that the caller's list begins with: how many
+// were made, and their lines in the list; or the refusal, on which the list keeps its content. Any numbers may be handed over.
+#[no_mangle]
+pub extern "C" fn serpentgleam_pair(
+    file: &[u8],
+    lines: &mut [Line],
+    count: u64,
+    allowance: u64,
+) -> Answer
+    ensures numbers { λ r. ⌜ r ≡ pairNumbers (pairAnswer (now (file .entry)) (now (lines .entry)) count allowance) ⌝ }
+    ensures list { λ _. ⌜ now (lines .exit) ≡ listPaired (now (file .entry)) (now (lines .entry)) count allowance ⌝ }
+{
+    let mut numbers = [0u64; MOST_NUMBERS];
+    let ready = next_pairs(file, lines.len(), count, allowance, &mut numbers);
+    let there = lines_there(ready);
+    let same = agree(lines, there, &numbers);
+    let then = lines_then(ready, same);
+    write_entries(lines, there, then, &numbers);
+    told(ready, same)
+}
+
+// The amount of the file after the `count` pairs whose lines the caller's list begins with, or the refusal. The list is read
+// alone.
+#[no_mangle]
+pub extern "C" fn serpentgleam_amount_so_far(file: &[u8], lines: &[Line], count: u64) -> Answer
+    ensures { λ r. ⌜ r ≡ answerNumbers (amountSoFar (now (file .entry)) (now (lines .entry)) count) ⌝ }
+{
+    let mut numbers = [0u64; MOST_NUMBERS];
+    let ready = amount_after(file, lines.len(), count, &mut numbers);
+    let there = lines_there(ready);
+    let same = agree(lines, there, &numbers);
+    told(ready, same)
 }

@@ -28,13 +28,13 @@ slice-aggregate-left-rows-2 : tie.Need-slice-aggregate-left-rows-2
 slice-aggregate-left-rows-2 c = search needs
 
 left-rows-requires : tie.Need-left-rows-requires
-left-rows-requires c κs = rows-ask (now (c .before .before .before .before .before .before .before .before .before .before .before .before .before .before .before .before .args .file)) (c .before .before .before .before .before .before .before .before .before .before .before .before .before .before .before .before .args .l) (c .before .before .before .before .before .before .before .pair-up .last .1 .1 .0) (c .before .before .before .before .before .before .before .pair-up .last .1 .1 .1 .0) (c .before .before .before .before .before .before .before .pair-up .last .1 .1 .1 .1 .0) (c .before .before .before .before .before .before .before .pair-up .result) (c .before .before .before .before .before .before .before .before .before .before .before .before .before .before .before .before .pre .0) (omega (arith, c .before .before .before .before .before .before .before .pair-up .kept .1 .1 .1 .0, c .before .before .before .before .before .before .before .before .before .before .before .before .fill-contracts .kept .1 .1 .0)) (c .before .before .before .before .before .before .before .pair-up .kept .1 .1 .1 .1 .0 ∙ c .before .before .before .before .before .before .before .before .before .before .before .before .before .before .before .before .pre .1) (c .before .before .before .before .before .before .before .pair-up .ensures)
+left-rows-requires c κs = rows-ask (now (c .before .before .before .before .before .before .before .before .before .before .before .before .before .before .before .before .args .file)) (c .before .before .before .before .before .before .before .before .before .before .before .before .before .before .before .before .args .l) (c .before .before .before .before .before .before .before .before .before .before .before .before .before .before .before .before .args .count) (c .before .before .before .before .before .before .before .pair-up .last .1 .1 .1 .1 .0) (c .before .before .before .before .before .before .before .pair-up .last .1 .1 .1 .1 .1 .0) (c .before .before .before .before .before .before .before .pair-up .last .1 .1 .1 .1 .1 .1 .0) (c .before .before .before .before .before .before .before .pair-up .result) (c .before .before .before .before .before .before .before .before .before .before .before .before .before .before .before .before .pre .0) (omega (arith, c .before .before .before .before .before .before .before .pair-up .kept .1 .1 .1 .1 .1 .0, c .before .before .before .before .before .before .before .before .before .before .before .before .fill-contracts .kept .1 .1 .0)) (c .before .before .before .before .before .before .before .pair-up .kept .1 .1 .1 .1 .1 .1 .0 ∙ c .before .before .before .before .before .before .before .before .before .before .before .before .before .before .before .before .pre .1) (c .before .before .before .before .before .before .before .pair-up .ensures)
 
 same-length : tie.Need-same-length
-same-length c = c .before .before .left-rows .kept .1 .1 .1 .1 .0 ∙ c .before .before .before .before .before .before .before .before .before .before .pair-up .kept .1 .1 .1 .1 .0
+same-length c = c .before .before .left-rows .kept .1 .1 .1 .1 .0 ∙ c .before .before .before .before .before .before .before .before .before .before .pair-up .kept .1 .1 .1 .1 .1 .1 .0
 
 returns : tie.Need-returns
-returns c = account-listed (now (c .before .before .before .before .before .before .before .before .before .before .before .before .before .before .before .before .before .before .before .args .file)) (c .before .before .before .before .before .before .before .before .before .before .before .before .before .before .before .before .before .before .before .args .l) (c .before .before .before .before .before .before .before .before .before .before .pair-up .last .1 .1 .1 .0) (c .before .before .before .before .before .before .before .before .before .before .pair-up .last .1 .1 .1 .1 .0) (c .before .before .left-rows .last .1 .1 .1 .1 .0) (c .before .before .before .before .before .before .before .before .before .before .pair-up .result) (c .before .before .left-rows .result) (c .before .before .before .before .before .before .before .before .before .before .before .before .before .before .before .before .before .before .before .pre .0) (c .before .before .before .before .before .before .before .before .before .before .pair-up .kept .1 .1 .1 .1 .0 ∙ c .before .before .before .before .before .before .before .before .before .before .before .before .before .before .before .before .before .before .before .pre .1) (c .before .before .before .before .before .before .before .before .before .before .pair-up .ensures .paired) (c .before .before .left-rows .ensures)
+returns c = account-listed (now (c .before .before .before .before .before .before .before .before .before .before .before .before .before .before .before .before .before .before .before .args .file)) (c .before .before .before .before .before .before .before .before .before .before .before .before .before .before .before .before .before .before .before .args .l) (c .before .before .before .before .before .before .before .before .before .before .before .before .before .before .before .before .before .before .before .args .count) (c .before .before .before .before .before .before .before .before .before .before .pair-up .last .1 .1 .1 .1 .0) (c .before .before .before .before .before .before .before .before .before .before .pair-up .last .1 .1 .1 .1 .1 .0) (c .before .before .before .before .before .before .before .before .before .before .pair-up .last .1 .1 .1 .1 .1 .1 .0) (c .before .before .left-rows .last .1 .1 .1 .1 .0) (c .before .before .before .before .before .before .before .before .before .before .pair-up .result) (c .before .before .left-rows .result) (c .before .before .before .before .before .before .before .before .before .before .before .before .before .before .before .before .before .before .before .pre .0) (c .before .before .before .before .before .before .before .before .before .before .pair-up .kept .1 .1 .1 .1 .1 .1 .0 ∙ c .before .before .before .before .before .before .before .before .before .before .before .before .before .before .before .before .before .before .before .pre .1) (c .before .before .before .before .before .before .before .before .before .before .pair-up .ensures) (c .before .before .left-rows .ensures)
 
 pub list-lines-spec : {M : Type 1} → statement M
 list-lines-spec =

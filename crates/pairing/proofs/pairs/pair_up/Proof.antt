@@ -1,14 +1,15 @@
 use Rattle.pairing.proofs.StandingLaws.{leaves-none}
-use Rattle.pairing.proofs.Turn.{no-rows}
+use Rattle.pairing.proofs.Turn.{began, both, no-rows}
 use Rattle.pairing.proofs.pairs.pair_up.Statement.{statement}
 use Rattle.pairing.proofs.pairs.pair_up.Tie as tie
 use Rattle.rules.specs.File.{accountOf}
 use borrow.Author.Needs.{needs}
 use denote.Ref.{now}
+use mathlib.Core.Path.{_∙_}
 use native.Mathlib.Omega.{arith}
 
 returns : tie.Need-returns
-returns c = no-rows (accountOf (now (c .before .before .before .before .before .before .args .file)) (c .before .before .before .before .before .before .args .l)) (now (c .before .before .before .before .before .before .args .table)) (now (c .before .before .before .before .before .before .args .left)) (now (c .before .before .before .before .before .before .args .numbers)) (c .if1 .taken) (c .before .before .before .before .before .before .pre .table-new .room)
+returns c = no-rows (accountOf (now (c .before .before .before .before .before .before .args .file)) (c .before .before .before .before .before .before .args .l)) (c .before .before .before .before .before .before .args .count) (c .before .before .before .before .before .before .args .allowance) (now (c .before .before .before .before .before .before .args .table)) (now (c .before .before .before .before .before .before .args .left)) (now (c .before .before .before .before .before .before .args .numbers)) (c .if1 .taken) (c .before .before .before .before .before .before .pre .table-new .room)
 
 slice-aggregate-fill-rows : tie.Need-slice-aggregate-fill-rows
 slice-aggregate-fill-rows c = search needs
@@ -41,19 +42,28 @@ slice-aggregate-pair-rounds-2 : tie.Need-slice-aggregate-pair-rounds-2
 slice-aggregate-pair-rounds-2 c = search needs
 
 pair-rounds-requires : tie.Need-pair-rounds-requires
-pair-rounds-requires c κs = record { rows = record { rests = (record { file = (c .before .before .before .before .before .before .before .before .before .before .before .before .before .before .before .before .before .before .before .before .before .before .before .before .before .before .before .before .before .before .before .before .pre .table-new .file); filled = c .before .before .before .before .before .before .before .before .before .before .before .before .before .before .before .before .before .before .before .before .before .fill-rows .ensures .filled; lefts = c .before .before .before .before .before .before .before .before .before .before .before .before .before .before .before .before .before .before .before .before .before .before .before .before .before .before .before .before .before .before .before .before .pre .lefts }); lines = c .before .before .before .before .before .before .before .before .before .before .before .before .before .before .before .before .before .before .before .before .before .fill-rows .ensures .lines; standings = c .before .before .before .before .before .before .before .begin-rows .ensures }; room = omega (arith, c .before .before .before .before .before .before .before .before .before .before .before .before .before .before .before .before .before .before .before .before .before .before .before .before .before .before .before .before .before .before .before .before .pre .room, c .before .before .before .before .before .before .before .before .before .before .before .before .before .before .before .before .before .before .before .before .before .fill-rows .kept .1 .1 .1 .0); contracts = c .before .before .before .before .before .before .before .before .before .before .before .before .before .before .before .before .before .before .before .before .before .before .before .before .before .before .before .before .before .before .before .before .pre .contracts }
+pair-rounds-requires c κs = record { rows = record { rests = (record { file = (c .before .before .before .before .before .before .before .before .before .before .before .before .before .before .before .before .before .before .before .before .before .before .before .before .before .before .before .before .before .before .before .before .pre .table-new .file); filled = c .before .before .before .before .before .before .before .before .before .before .before .before .before .before .before .before .before .before .before .before .before .fill-rows .ensures .filled; lefts = c .before .before .before .before .before .before .before .before .before .before .before .before .before .before .before .before .before .before .before .before .before .before .before .before .before .before .before .before .before .before .before .before .pre .lefts }); lines = c .before .before .before .before .before .before .before .before .before .before .before .before .before .before .before .before .before .before .before .before .before .fill-rows .ensures .lines; standings = c .before .before .before .before .before .before .before .begin-rows .ensures }; room = omega (arith, c .before .before .before .before .before .before .before .before .before .before .before .before .before .before .before .before .before .before .before .before .before .before .before .before .before .before .before .before .before .before .before .before .pre .room, c .before .before .before .before .before .before .before .before .before .before .before .before .before .before .before .before .before .before .before .before .before .fill-rows .kept .1 .1 .1 .0); paired = began (accountOf (now (c .before .before .before .before .before .before .before .before .before .before .before .before .before .before .before .before .before .before .before .before .before .before .before .before .before .before .before .before .before .before .before .before .args .file)) (c .before .before .before .before .before .before .before .before .before .before .before .before .before .before .before .before .before .before .before .before .before .before .before .before .before .before .before .before .before .before .before .before .args .l)) (now (c .before .before .before .before .before .before .before .before .before .before .before .before .before .before .before .before .before .before .before .before .before .before .before .before .before .before .before .before .before .before .before .before .args .left)) (c .before .before .before .before .before .before .before .before .before .before .before .before .before .before .before .before .before .before .before .before .before .fill-rows .last .1 .1 .1 .0) (c .before .before .before .before .before .before .before .before .before .before .before .before .before .before .before .before .before .before .before .before .before .before .before .before .before .before .before .before .before .before .before .before .pre .contracts) }
+
+slice-aggregate-pair-rounds-3 : tie.Need-slice-aggregate-pair-rounds-3
+slice-aggregate-pair-rounds-3 c = search needs
+
+slice-aggregate-pair-rounds-4 : tie.Need-slice-aggregate-pair-rounds-4
+slice-aggregate-pair-rounds-4 c = search needs
+
+pair-rounds-requires-2 : tie.Need-pair-rounds-requires-2
+pair-rounds-requires-2 c κs = record { rows = record { rests = record { file = (c .before .before .before .before .before .before .before .before .before .before .before .before .before .before .before .before .before .before .before .before .before .before .before .before .before .before .before .before .before .before .before .before .before .before .before .before .before .before .before .before .before .before .before .before .pre .table-new .file); filled = c .before .before .before .before .before .before .before .before .before .before .before .before .before .before .before .before .before .before .before .before .before .before .before .before .before .before .before .before .before .before .before .before .before .fill-rows .ensures .filled; lefts = omega (arith, c .before .before .before .before .before .before .before .before .before .before .before .before .before .before .before .before .before .before .before .before .before .before .before .before .before .before .before .before .before .before .before .before .before .before .before .before .before .before .before .before .before .before .before .before .pre .lefts, c .before .before .before .before .before .before .before .before .before .before .before .pair-rounds .kept .1 .1 .0) }; lines = c .before .before .before .before .before .before .before .before .before .before .before .before .before .before .before .before .before .before .before .before .before .before .before .before .before .before .before .before .before .before .before .before .before .fill-rows .ensures .lines; standings = c .before .before .before .before .before .before .before .before .before .before .before .pair-rounds .ensures .standings }; room = omega (arith, c .before .before .before .before .before .before .before .before .before .before .before .before .before .before .before .before .before .before .before .before .before .before .before .before .before .before .before .before .before .before .before .before .before .before .before .before .before .before .before .before .before .before .before .before .pre .room, c .before .before .before .before .before .before .before .before .before .before .before .before .before .before .before .before .before .before .before .before .before .before .before .before .before .before .before .before .before .before .before .before .before .fill-rows .kept .1 .1 .1 .0, c .before .before .before .before .before .before .before .before .before .before .before .pair-rounds .kept .1 .1 .1 .0); paired = c .before .before .before .before .before .before .before .before .before .before .before .pair-rounds .ensures .one-each }
 
 same-length : tie.Need-same-length
-same-length c = search needs
+same-length c = c .before .before .before .before .before .before .before .before .before .before .before .before .before .before .before .before .before .before .before .before .before .before .before .before .before .before .before .before .before .before .before .before .before .before .before .before .before .before .before .before .fill-rows .kept .1 .1 .0
 
 same-length-2 : tie.Need-same-length-2
-same-length-2 c = search needs
+same-length-2 c = c .before .before .before .before .before .before .pair-rounds2 .kept .1 .1 .0 ∙ c .before .before .before .before .before .before .before .before .before .before .before .before .before .before .before .before .before .before .pair-rounds .kept .1 .1 .0
 
 same-length-3 : tie.Need-same-length-3
-same-length-3 c = search needs
+same-length-3 c = c .before .before .before .before .before .before .pair-rounds2 .kept .1 .1 .1 .0 ∙ c .before .before .before .before .before .before .before .before .before .before .before .before .before .before .before .before .before .before .pair-rounds .kept .1 .1 .1 .0 ∙ c .before .before .before .before .before .before .before .before .before .before .before .before .before .before .before .before .before .before .before .before .before .before .before .before .before .before .before .before .before .before .before .before .before .before .before .before .before .before .before .before .fill-rows .kept .1 .1 .1 .0
 
 returns-2 : tie.Need-returns-2
-returns-2 c = record { paired = c .before .before .before .before .before .before .pair-rounds .ensures; units = c .before .before .before .before .before .before .before .before .before .before .before .before .before .before .before .before .before .before .before .before .before .before .before .before .before .before .before .before .fill-rows .ensures .filled .units; room = c .before .before .before .before .before .before .before .before .before .before .before .before .before .before .before .before .before .before .before .before .before .before .before .before .before .before .before .before .fill-rows .ensures .filled .room }
+returns-2 c = both (accountOf (now (c .before .before .before .before .before .before .before .before .before .before .before .before .before .before .before .before .before .before .before .before .before .before .before .before .before .before .before .before .before .before .before .before .before .before .before .before .before .before .before .before .before .before .before .before .before .before .before .before .before .before .before .args .file)) (c .before .before .before .before .before .before .before .before .before .before .before .before .before .before .before .before .before .before .before .before .before .before .before .before .before .before .before .before .before .before .before .before .before .before .before .before .before .before .before .before .before .before .before .before .before .before .before .before .before .before .before .args .l)) (c .before .before .before .before .before .before .before .before .before .before .before .before .before .before .before .before .before .before .before .before .before .before .before .before .before .before .before .before .before .before .before .before .before .before .before .before .before .before .before .before .before .before .before .before .before .before .before .before .before .before .before .args .count) (c .before .before .before .before .before .before .before .before .before .before .before .before .before .before .before .before .before .before .before .before .before .before .before .before .before .before .before .before .before .before .before .before .before .before .before .before .before .before .before .before .before .before .before .before .before .before .before .before .before .before .before .args .allowance) (c .before .before .before .before .before .before .before .before .before .before .before .before .before .before .before .before .before .before .before .before .before .before .before .before .before .before .before .before .before .before .before .before .before .before .before .before .before .before .before .before .fill-rows .last .1 .1 .0) (c .before .before .before .before .before .before .before .before .before .before .before .before .before .before .before .before .before .before .pair-rounds .last .1 .1 .0) (c .before .before .before .before .before .before .before .before .before .before .before .before .before .before .before .before .before .before .pair-rounds .last .1 .1 .1 .0) (c .before .before .before .before .before .before .pair-rounds2 .last .1 .1 .0) (c .before .before .before .before .before .before .pair-rounds2 .last .1 .1 .1 .0) (c .before .before .before .before .before .before .before .before .before .before .before .before .before .before .before .before .before .before .pair-rounds .result) (c .before .before .before .before .before .before .pair-rounds2 .result) (c .before .before .before .before .before .before .before .before .before .before .before .before .before .before .before .before .before .before .pair-rounds .ensures .paired) (c .before .before .before .before .before .before .pair-rounds2 .ensures .paired) (c .before .before .before .before .before .before .before .before .before .before .before .before .before .before .before .before .before .before .before .before .before .before .before .before .before .before .before .before .before .before .before .before .before .before .before .before .before .before .before .before .fill-rows .ensures .filled .units) (c .before .before .before .before .before .before .before .before .before .before .before .before .before .before .before .before .before .before .before .before .before .before .before .before .before .before .before .before .before .before .before .before .before .before .before .before .before .before .before .before .fill-rows .ensures .filled .room)
 
 pub pair-up-spec : {M : Type 1} → statement M
 pair-up-spec =
@@ -71,6 +81,9 @@ pair-up-spec =
     slice-aggregate-pair-rounds
     slice-aggregate-pair-rounds-2
     pair-rounds-requires
+    slice-aggregate-pair-rounds-3
+    slice-aggregate-pair-rounds-4
+    pair-rounds-requires-2
     same-length
     same-length-2
     same-length-3

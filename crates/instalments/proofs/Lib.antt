@@ -1,0 +1,2 @@
+-- The laws that the calls rest on, over plain values.
+pub mod ReadyLaws

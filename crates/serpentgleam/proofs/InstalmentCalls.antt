@@ -1,0 +1,152 @@
+-- The calls that the pairing in instalments makes, each as one step, in the manner of `Calls.antt`. Assumes `Given`.
+--     calls-next       `next_pairs`, to which the numbers are lent. The operands are looked up where they stand before the step
+--     calls-amount     `amount_after`, in the same way
+--     calls-there      `lines_there`. Here and in the next two the operands are looked up one entry further
+--     calls-then       `lines_then`
+--     calls-told       `told`
+-- `agree` and `write_entries` are in crate `lent` (`AgreeCall.antt`, `WriteCall.antt`).
+use Rattle.lent.proofs.Walk.{_≡_, refl, Bool, ℕ, _<_, _^_, [], _∷_, List, length, URA, fullShare, named, w64, Val, vint, vbool, SProp, ent, id⊢, emp, Lft, Share, GName, Fml, ftrue, flft, flent, Memory, Routine, Heap, Env, Calls, Loops, Atoms, Fun, Ends, lands, Given, Item, runs, ‵, raw, _⊛_, ⋆, _$_, _∵_, !, qed, move, use1, split, join, rewrite, fsplit, fjoin, feqI, frame, done, drop, use3, feqL, Seq, FmC, Is, uint-makes, usize, u64, u8, RefT, sliceVal, MutSlice, ShrSlice, shr-slice-copy, Held, row, owned, nothing, tripleOf, Contract, Triple, calls-at, lasts, says}
+use mir.Syntax.{Place, Opd as Operand, Body, seq, call}
+use types.Run.{Opds}
+use denote.Enum.Laws as EL
+use Rattle.instalments.specs.Ready.{AmountReady, PairsReady, end, start}
+use Rattle.instalments.specs.declared.CallLines.{CallLines}
+use Rattle.lines.specs.LineNumbers.{mostNumbers}
+use Rattle.serpentgleam.specs.InstalmentNumbers.{toldNumbers}
+use Rattle.serpentgleam.specs.declared.Answer.{Answer}
+use Rattle.lent.proofs.Calling.{calls-plain, returned}
+use Rattle.lent.proofs.Lending.{lends-row, row-back}
+use Rattle.lent.proofs.Zeros.{array, array-room, array-slice}
+use Rattle.instalments.proofs.CallLines as E
+use Rattle.instalments.proofs.CallLines.Laws as E′
+use Rattle.serpentgleam.proofs.Answer as N
+use Rattle.instalments.proofs.next_pairs as next-pairs
+use Rattle.instalments.proofs.next_pairs.Symbol.{name as #instalments·next-pairs}
+use Rattle.instalments.proofs.amount_after as amount-after
+use Rattle.instalments.proofs.amount_after.Symbol.{name as #instalments·amount-after}
+use Rattle.instalments.proofs.lines_there as lines-there
+use Rattle.instalments.proofs.lines_there.Symbol.{name as #instalments·lines-there}
+use Rattle.instalments.proofs.lines_then as lines-then
+use Rattle.instalments.proofs.lines_then.Symbol.{name as #instalments·lines-then}
+use Rattle.serpentgleam.proofs.told as told
+use Rattle.serpentgleam.proofs.told.Symbol.{name as #serpentgleam·told}
+
+-- The contracts.
+module _ {M : Type 1} (𝓤 : URA M) (H : Heap 𝓤) (A : Atoms 𝓤) (mem : Memory → SProp 𝓤) (run : Routine → Fun 𝓤) where
+  abbrev pub NextPairs : Contract 𝓤
+  NextPairs = tripleOf 𝓤 H A next-pairs.signature (next-pairs.spec 𝓤 H A mem run)
+
+  abbrev pub AmountAfter : Contract 𝓤
+  AmountAfter = tripleOf 𝓤 H A amount-after.signature (amount-after.spec 𝓤 H A mem run)
+
+  abbrev pub LinesThere : Contract 𝓤
+  LinesThere = tripleOf 𝓤 H A lines-there.signature (lines-there.spec 𝓤 H A mem run)
+
+  abbrev pub LinesThen : Contract 𝓤
+  LinesThen = tripleOf 𝓤 H A lines-then.signature (lines-then.spec 𝓤 H A mem run)
+
+  abbrev pub Told : Contract 𝓤
+  Told = tripleOf 𝓤 H A told.signature (told.spec 𝓤 H A mem run)
+
+-- `lines_there`, `lines_then` and `told` of what a call has worked out, r with the machine value w.
+module _ {M : Type 1} (𝓤 : URA M) (H : Heap 𝓤) (A : Atoms 𝓤) (W : Given 𝓤 H A) (mem : Memory → SProp 𝓤) (run : Routine → Fun 𝓤) (r : CallLines) (w : Val) (is : Is E.the-row r (w ∷ [])) where
+  abbrev to-there : LinesThere 𝓤 H A mem run .Ghost
+  to-there = ((tt, tt, tt, (r, tt), (w ∷ [], tt)), tt)
+
+  goes-there : ent 𝓤 (emp 𝓤) (LinesThere 𝓤 H A mem run .pre to-there)
+  goes-there = qed W [] ∵ nothing ! $ owned ! E.the-row (Is E.the-row) (EL.makes E.the-type E′.the-plain 𝓤 H A) r (w ∷ []) is $ fjoin ! $ nothing ! $ join ! $ frame ! $ done !
+
+  abbrev to-then : Bool → LinesThen 𝓤 H A mem run .Ghost
+  to-then same = ((tt, tt, tt, (r, (same, tt)), (w ∷ [], (vbool same ∷ [], tt))), tt)
+
+  goes-then : (same : Bool) → ent 𝓤 (emp 𝓤) (LinesThen 𝓤 H A mem run .pre (to-then same))
+  goes-then same =
+      qed W [] ∵ nothing ! $ feqI ! (List Val) (vbool same ∷ []) (vbool same ∷ []) refl $ fjoin ! $ owned ! E.the-row (Is E.the-row) (EL.makes E.the-type E′.the-plain 𝓤 H A) r (w ∷ []) is $ fjoin ! $ nothing ! $ join ! $ frame ! $ done !
+
+  abbrev to-told : Bool → Told 𝓤 H A mem run .Ghost
+  to-told same = ((tt, tt, tt, (r, (same, tt)), (w ∷ [], (vbool same ∷ [], tt))), tt)
+
+  goes-told : (same : Bool) → ent 𝓤 (emp 𝓤) (Told 𝓤 H A mem run .pre (to-told same))
+  goes-told same =
+      qed W [] ∵ nothing ! $ feqI ! (List Val) (vbool same ∷ []) (vbool same ∷ []) refl $ fjoin ! $ owned ! E.the-row (Is E.the-row) (EL.makes E.the-type E′.the-plain 𝓤 H A) r (w ∷ []) is $ fjoin ! $ nothing ! $ join ! $ frame ! $ done !
+
+  module _ {K : Type 0} {Γ : List (Item 𝓤)} {En : Env 𝓤 H} {C : Calls 𝓤 H} {Λ : Loops 𝓤 H} {q : Ends 𝓤 H} {xs : List Operand} {d : Place} {rest : Body} where
+    pub calls-there : K → FmC 𝓤 H (W .laws) C → Triple 𝓤 (C #instalments·lines-there) (LinesThere 𝓤 H A mem run) → Opds K W (raw (LinesThere 𝓤 H A mem run .pre to-there) ∷ Γ) En xs (w ∷ [])
+        → ((v : Val) (n : ℕ) → n ≡ start r → Is usize n (v ∷ []) → Seq K W Γ (lands C Λ En d v rest q)) → Seq K W Γ (runs C Λ En (seq (call #instalments·lines-there xs d) rest) q)
+    calls-there t fm known = calls-plain t fm (LinesThere 𝓤 H A mem run) known to-there goes-there usize (lasts lines-there.ended tt (r, tt)) (λ (n : ℕ). n ≡ start r) (λ _. id⊢ 𝓤 _)
+
+    pub calls-then : K → (same : Bool) → FmC 𝓤 H (W .laws) C → Triple 𝓤 (C #instalments·lines-then) (LinesThen 𝓤 H A mem run) → Opds K W (raw (LinesThen 𝓤 H A mem run .pre (to-then same)) ∷ Γ) En xs (w ∷ vbool same ∷ [])
+        → ((v : Val) (n : ℕ) → n ≡ end r same → Is usize n (v ∷ []) → Seq K W Γ (lands C Λ En d v rest q)) → Seq K W Γ (runs C Λ En (seq (call #instalments·lines-then xs d) rest) q)
+    calls-then t same fm known = calls-plain t fm (LinesThen 𝓤 H A mem run) known (to-then same) (goes-then same) usize (lasts lines-then.ended tt (r, (same, tt))) (λ (n : ℕ). n ≡ end r same) (λ _. id⊢ 𝓤 _)
+
+    pub calls-told : K → (same : Bool) → FmC 𝓤 H (W .laws) C → Triple 𝓤 (C #serpentgleam·told) (Told 𝓤 H A mem run) → Opds K W (raw (Told 𝓤 H A mem run .pre (to-told same)) ∷ Γ) En xs (w ∷ vbool same ∷ [])
+        → ((v : Val) (m : Answer) → m ≡ toldNumbers r same → Is N.the-row m (v ∷ []) → Seq K W Γ (lands C Λ En d v rest q)) → Seq K W Γ (runs C Λ En (seq (call #serpentgleam·told xs d) rest) q)
+    calls-told t same fm known = calls-plain t fm (Told 𝓤 H A mem run) known (to-told same) (goes-told same) N.the-row (lasts told.ended tt (r, (same, tt))) (λ (m : Answer). m ≡ toldNumbers r same) (λ _. id⊢ 𝓤 _)
+
+-- `next_pairs` and `amount_after` of the file f, for a list of `room` entries, with the numbers in the block l.
+module _ {M : Type 1} (𝓤 : URA M) (H : Heap 𝓤) (A : Atoms 𝓤) (W : Given 𝓤 H A) (mem : Memory → SProp 𝓤) (run : Routine → Fun 𝓤) (κ : Lft) (p : Share) (f : RefT (List ℕ)) (room count : ℕ) (room-fits : room < 2 ^ 64) (count-fits : count < 2 ^ 64)
+    (l : ℕ) (numbers : List ℕ) (long : length numbers ≡ mostNumbers) where
+  abbrev s : Val
+  s = sliceVal (f .ptr) (length (f .now))
+
+  abbrev File : Fml
+  File = ShrSlice (named 0) κ u8 .own f (s ∷ [])
+
+  abbrev Numbers : ℕ → GName → Fml
+  Numbers ν δ = MutSlice (named 1) (ν ∷ []) u64 .own (array l δ numbers) (array-slice l ∷ [])
+
+  abbrev args : ℕ → GName → RefT (List ℕ) × (ℕ × (ℕ × (ℕ × (RefT (List ℕ) × Unit {0}))))
+  args allowance δ = (f, (room, (count, (allowance, (array l δ numbers, tt)))))
+
+  abbrev to-next : ℕ → ℕ → GName → NextPairs 𝓤 H A mem run .Ghost
+  to-next allowance ν δ = (((κ, (ν ∷ [], tt)), (p, (fullShare, tt)), tt, args allowance δ, (s ∷ [], (vint w64 room ∷ [], (vint w64 count ∷ [], (vint w64 allowance ∷ [], (array-slice l ∷ [], tt)))))), tt)
+
+  goes-next : (allowance : ℕ) → allowance < 2 ^ 64 → (ν : ℕ) (δ : GName) → ent 𝓤 (⋆ 𝓤 H A (‵ (flft κ p) ∷ ‵ (flft (ν ∷ []) fullShare) ∷ (‵ (Numbers ν δ) ⊛ ‵ File) ∷ [])) (NextPairs 𝓤 H A mem run .pre (to-next allowance ν δ))
+  goes-next allowance fits ν δ =
+      qed W (‵ (flft κ p) ∷ ‵ (flft (ν ∷ []) fullShare) ∷ (‵ (Numbers ν δ) ⊛ ‵ File) ∷ []) ∵ says ! long $ nothing ! $ move ! (2 ∷ 0 ∷ []) $ join ! $ move ! (1 ∷ 0 ∷ []) $ join ! $ frame ! $ split ! $
+      nothing ! $ move ! (1 ∷ 0 ∷ []) $ fjoin ! $ owned ! u64 (Is u64) (uint-makes 𝓤 H A W w64) allowance _ (refl, fits) $ fjoin ! $ owned ! u64 (Is u64) (uint-makes 𝓤 H A W w64) count _ (refl, count-fits) $ fjoin ! $
+      owned ! usize (Is usize) (uint-makes 𝓤 H A W w64) room _ (refl, room-fits) $ fjoin ! $ move ! (1 ∷ 0 ∷ []) $ fjoin ! $ done !
+
+  abbrev args-amount : GName → RefT (List ℕ) × (ℕ × (ℕ × (RefT (List ℕ) × Unit {0})))
+  args-amount δ = (f, (room, (count, (array l δ numbers, tt))))
+
+  abbrev to-amount : ℕ → GName → AmountAfter 𝓤 H A mem run .Ghost
+  to-amount ν δ = (((κ, (ν ∷ [], tt)), (p, (fullShare, tt)), tt, args-amount δ, (s ∷ [], (vint w64 room ∷ [], (vint w64 count ∷ [], (array-slice l ∷ [], tt))))), tt)
+
+  goes-amount : (ν : ℕ) (δ : GName) → ent 𝓤 (⋆ 𝓤 H A (‵ (flft κ p) ∷ ‵ (flft (ν ∷ []) fullShare) ∷ (‵ (Numbers ν δ) ⊛ ‵ File) ∷ [])) (AmountAfter 𝓤 H A mem run .pre (to-amount ν δ))
+  goes-amount ν δ =
+      qed W (‵ (flft κ p) ∷ ‵ (flft (ν ∷ []) fullShare) ∷ (‵ (Numbers ν δ) ⊛ ‵ File) ∷ []) ∵ says ! long $ nothing ! $ move ! (2 ∷ 0 ∷ []) $ join ! $ move ! (1 ∷ 0 ∷ []) $ join ! $ frame ! $ split ! $
+      nothing ! $ move ! (1 ∷ 0 ∷ []) $ fjoin ! $ owned ! u64 (Is u64) (uint-makes 𝓤 H A W w64) count _ (refl, count-fits) $ fjoin ! $ owned ! usize (Is usize) (uint-makes 𝓤 H A W w64) room _ (refl, room-fits) $ fjoin ! $ move ! (1 ∷ 0 ∷ []) $ fjoin ! $ done !
+
+  module _ {K : Type 0} {i j : Item 𝓤} {Γ : List (Item 𝓤)} {En : Env 𝓤 H} {C : Calls 𝓤 H} {Λ : Loops 𝓤 H} {q : Ends 𝓤 H} {xs : List Operand} {d : Place} {rest : Body} where
+    pub calls-next : K → (allowance : ℕ) (fits : allowance < 2 ^ 64) → FmC 𝓤 H (W .laws) C → Triple 𝓤 (C #instalments·next-pairs) (NextPairs 𝓤 H A mem run)
+        → ((ν : ℕ) (δ : GName) → Opds K W (raw (NextPairs 𝓤 H A mem run .pre (to-next allowance ν δ)) ∷ ‵ (flent (ν ∷ []) (Held u64 (length numbers) l 0 δ)) ∷ i ∷ j ∷ ‵ File ∷ Γ) En xs (NextPairs 𝓤 H A mem run .args (to-next allowance ν δ)))
+        → ((w : Val) (r : CallLines) (vs : List ℕ) → PairsReady (f .now) room count allowance vs r → Is E.the-row r (w ∷ []) → Seq K W (i ∷ j ∷ ‵ (row u64 fullShare vs l 0) ∷ ‵ (flft κ p) ∷ ‵ File ∷ Γ) (lands C Λ En d w rest q))
+        → Seq K W (i ∷ j ∷ ‵ (row u64 fullShare numbers l 0) ∷ ‵ (flft κ p) ∷ ‵ File ∷ Γ) (runs C Λ En (seq (call #instalments·next-pairs xs d) rest) q)
+    calls-next t allowance fits fm known os k =
+        move t (4 ∷ []) $ use1 W (‵ File ⊛ ‵ File) (shr-slice-copy 𝓤 H A W (named 0) κ u8 .twice f (s ∷ [])) $ split t $ move t (4 ∷ []) $
+        lends-row t tt u64 (named 1) numbers l 0 (array-room (length numbers) long) (λ ν δ. rewrite t 0 (λ (m : ℕ). ‵ (MutSlice (named 1) (ν ∷ []) u64 .own (array l δ numbers) (sliceVal (l, 0) m ∷ []))) long refl $
+        -- [the numbers, lent; what brings them back; the token ν; file; file; i; j; file's token]
+        move t (0 ∷ 3 ∷ []) $ join t $ move t (6 ∷ 2 ∷ 0 ∷ 1 ∷ 4 ∷ 5 ∷ []) $ use3 W (raw (NextPairs 𝓤 H A mem run .pre (to-next allowance ν δ))) (goes-next allowance fits ν δ) $
+        calls-at t fm (NextPairs 𝓤 H A mem run) known (to-next allowance ν δ) (os ν δ) (λ w.
+        returned t tt _ E.the-row w (‵ (flft κ p) ⊛ (‵ (flft (ν ∷ []) fullShare) ⊛ ‵ ftrue)) (lasts next-pairs.ended (κ, (ν ∷ [], tt)) (args allowance δ)) (λ (r : CallLines) (vs : Unit {0} × (Unit {0} × (Unit {0} × (Unit {0} × (List ℕ × Unit {0}))))). PairsReady (f .now) room count allowance (vs .1 .1 .1 .1 .0) r) (id⊢ 𝓤 _) (λ r vs e is.
+        -- [the last numbers; the tokens; the result; what brings them back; i; j; file]
+        fsplit t $ drop t $ fsplit t $ drop t $ fsplit t $ drop t $ fsplit t $ drop t $ fsplit t $ fsplit t $ move t (1 ∷ []) $ feqL t (λ len. move t (2 ∷ []) $ split t $ move t (1 ∷ []) $ split t $
+        -- [the token ν; true; file's token; the last numbers; true; the result; what brings them back; i; j; file]
+        move t (0 ∷ 6 ∷ 3 ∷ []) $ row-back t tt u64 ν δ (length numbers) (vs .1 .1 .1 .1 .0) l 0 $ move t (1 ∷ 3 ∷ 4 ∷ []) $ drop t $ drop t $ drop t $ move t (2 ∷ 3 ∷ []) $ k w r (vs .1 .1 .1 .1 .0) e is))))
+
+    pub calls-amount : K → FmC 𝓤 H (W .laws) C → Triple 𝓤 (C #instalments·amount-after) (AmountAfter 𝓤 H A mem run)
+        → ((ν : ℕ) (δ : GName) → Opds K W (raw (AmountAfter 𝓤 H A mem run .pre (to-amount ν δ)) ∷ ‵ (flent (ν ∷ []) (Held u64 (length numbers) l 0 δ)) ∷ i ∷ j ∷ ‵ File ∷ Γ) En xs (AmountAfter 𝓤 H A mem run .args (to-amount ν δ)))
+        → ((w : Val) (r : CallLines) (vs : List ℕ) → AmountReady (f .now) room count vs r → Is E.the-row r (w ∷ []) → Seq K W (i ∷ j ∷ ‵ (row u64 fullShare vs l 0) ∷ ‵ (flft κ p) ∷ ‵ File ∷ Γ) (lands C Λ En d w rest q))
+        → Seq K W (i ∷ j ∷ ‵ (row u64 fullShare numbers l 0) ∷ ‵ (flft κ p) ∷ ‵ File ∷ Γ) (runs C Λ En (seq (call #instalments·amount-after xs d) rest) q)
+    calls-amount t fm known os k =
+        move t (4 ∷ []) $ use1 W (‵ File ⊛ ‵ File) (shr-slice-copy 𝓤 H A W (named 0) κ u8 .twice f (s ∷ [])) $ split t $ move t (4 ∷ []) $
+        lends-row t tt u64 (named 1) numbers l 0 (array-room (length numbers) long) (λ ν δ. rewrite t 0 (λ (m : ℕ). ‵ (MutSlice (named 1) (ν ∷ []) u64 .own (array l δ numbers) (sliceVal (l, 0) m ∷ []))) long refl $
+        -- [the numbers, lent; what brings them back; the token ν; file; file; i; j; file's token]
+        move t (0 ∷ 3 ∷ []) $ join t $ move t (6 ∷ 2 ∷ 0 ∷ 1 ∷ 4 ∷ 5 ∷ []) $ use3 W (raw (AmountAfter 𝓤 H A mem run .pre (to-amount ν δ))) (goes-amount ν δ) $
+        calls-at t fm (AmountAfter 𝓤 H A mem run) known (to-amount ν δ) (os ν δ) (λ w.
+        returned t tt _ E.the-row w (‵ (flft κ p) ⊛ (‵ (flft (ν ∷ []) fullShare) ⊛ ‵ ftrue)) (lasts amount-after.ended (κ, (ν ∷ [], tt)) (args-amount δ)) (λ (r : CallLines) (vs : Unit {0} × (Unit {0} × (Unit {0} × (List ℕ × Unit {0})))). AmountReady (f .now) room count (vs .1 .1 .1 .0) r) (id⊢ 𝓤 _) (λ r vs e is.
+        -- [the last numbers; the tokens; the result; what brings them back; i; j; file]
+        fsplit t $ drop t $ fsplit t $ drop t $ fsplit t $ drop t $ fsplit t $ fsplit t $ move t (1 ∷ []) $ feqL t (λ len. move t (2 ∷ []) $ split t $ move t (1 ∷ []) $ split t $
+        -- [the token ν; true; file's token; the last numbers; true; the result; what brings them back; i; j; file]
+        move t (0 ∷ 6 ∷ 3 ∷ []) $ row-back t tt u64 ν δ (length numbers) (vs .1 .1 .1 .0) l 0 $ move t (1 ∷ 3 ∷ 4 ∷ []) $ drop t $ drop t $ drop t $ move t (2 ∷ 3 ∷ []) $ k w r (vs .1 .1 .1 .0) e is))))
