@@ -116,19 +116,19 @@ module _ (b : List ℕ) (room : ℕ) (numbers : List ℕ) (en : length numbers �
     pub amount-short : room < l .positions → AmountReady b room count numbers (NoLines ListTooShort 0)
     amount-short h = not-ready _ _ 0 (ap (amountFor b room count) e ∙ by-short a room count _ _ h)
 
-    pub amount-18 : (r : Listed) → l .positions ≤ room → AccountListed a count numbers r → r .pairs < count
+    pub amount-18 : (r : Listed) → l .positions ≤ room → AccountListed a count numbers r → r .first < count
         → AmountReady b room count numbers (NoLines NotFirstPairs 0)
     amount-18 r h f less =
-        not-ready _ _ 0 (ap (amountFor b room count) e ∙ by-18 a room count _ _ h (omega (arith, f .pairs-are, first-count a count)))
+        not-ready _ _ 0 (ap (amountFor b room count) e ∙ by-18 a room count _ _ h (omega (arith, f .first-is, first-count a count)))
 
-    pub amount-ready : (r : Listed) (premium : ℕ) → l .positions ≤ room → AccountListed a count numbers r → count ≤ r .pairs
-        → premium ≡ premiums a → AmountReady b room count numbers (Lines (r .pairs) (r .pairs) (r .lines .total + premium))
+    pub amount-ready : (r : Listed) (premium : ℕ) → l .positions ≤ room → AccountListed a count numbers r → count ≤ r .first
+        → premium ≡ premiums a → AmountReady b room count numbers (Lines (r .first) (r .first) (r .lines .total + premium))
     amount-ready r premium h f many ep =
-        let there : count ≤ all = omega (arith, f .pairs-are, first-count a count) in
-        let first : count ≡ r .pairs = omega (arith, f .pairs-are, first-count a count) in
+        let there : count ≤ all = omega (arith, f .first-is, first-count a count) in
+        let first : count ≡ r .first = omega (arith, f .first-is, first-count a count) in
         let value : totalAfter a count ≡ r .lines .total + premium = sym (ap₂ (λ x y. x + y) (f .total-is) ep) in
-        let is : amountFor b room count (fileRead b) ≡ Lines count (r .pairs) (r .lines .total + premium) =
+        let is : amountFor b room count (fileRead b) ≡ Lines count (r .first) (r .lines .total + premium) =
         ap (amountFor b room count) e ∙ by-lines a room count _ _ h there ∙ ap₂ (Lines count) first value
         in
-        subst (λ (k : ℕ). AmountReady b room count numbers (Lines k (r .pairs) (r .lines .total + premium))) first
-        (ready _ count (r .pairs) (r .lines .total + premium) h is (omega (arith, first)) (f .pairs-are) (f .pair-lines))
+        subst (λ (k : ℕ). AmountReady b room count numbers (Lines k (r .first) (r .lines .total + premium))) first
+        (ready _ count (r .first) (r .lines .total + premium) h is (omega (arith, first)) (f .first-is) (f .pair-lines))

@@ -22,7 +22,8 @@ abbrev pub start : CallLines → ℕ
 start (Lines first last value) = first
 start (NoLines w i) = 0
 
--- Up to which entry there are lines, and up to which they are written.
+-- How many lines there are, and with how many the list begins after the call: where it does not begin with those that it
+-- must, none are written.
 abbrev pub reach : CallLines → ℕ
 reach (Lines first last value) = last
 reach (NoLines w i) = 0

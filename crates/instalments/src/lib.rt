@@ -13,8 +13,8 @@ ghost use Rattle.lines.specs.LineNumbers.{mostNumbers};
 ghost use Rattle.rules.specs.Refusals.{fileRead};
 ghost use Rattle.rules.specs.declared.FileRead.the-variants.{Accepted};
 
-// With how many lines the list must begin, up to which entry lines are then to be written, and the number to be answered; or
-// the refusal.
+// With how many lines the list must begin, with how many it begins after the call, and the number to be answered; or the
+// refusal.
 pub enum CallLines {
     Lines(usize, usize, u64),
     NoLines(Refusal, usize),
@@ -79,7 +79,7 @@ fn amount_accepted(
         return CallLines::NoLines(Refusal::ListTooShort, 0);
     }
     let listed = list_lines(file, l, count, numbers);
-    let pairs = listed.pairs;
+    let pairs = listed.first;
     if (pairs as u64) < count {
         return CallLines::NoLines(Refusal::NotFirstPairs, 0);
     }
@@ -100,7 +100,7 @@ pub fn amount_after(file: &[u8], room: usize, count: u64, numbers: &mut [u64]) -
 }
 
 // With how many lines the list must begin: none on a refusal.
-pub fn lines_there(ready: CallLines) -> usize
+pub fn lines_compared(ready: CallLines) -> usize
     ensures { λ n. ⌜ n ≡ start ready ⌝ }
 {
     match ready {
@@ -109,8 +109,8 @@ pub fn lines_there(ready: CallLines) -> usize
     }
 }
 
-// Up to which entry lines are written: no further than they are there where the list does not begin with them.
-pub fn lines_then(ready: CallLines, same: bool) -> usize
+// With how many lines the list begins after the call: where it does not begin with those that it must, none are written.
+pub fn lines_after(ready: CallLines, same: bool) -> usize
     ensures { λ n. ⌜ n ≡ end ready same ⌝ }
 {
     match ready {

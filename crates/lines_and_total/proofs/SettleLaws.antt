@@ -97,7 +97,7 @@ pairs-listed b l count allowance table left numbers r en up =
 -- All lines after n rounds, once the rows left are written after the pairs.
 pub account-listed : (b : List ℕ) (l : Layout) (n : ℕ) (table left numbers numbers′ : List ℕ) (r : Instalment) (t : Tally) → Known b l → length numbers ≡ mostNumbers
     → PairedUp (accountOf b l) n 0 table left numbers r → Added (leftLines (accountOf b l) (nth left) (l .positions)) numbers numbers′ (r .pairs) t
-    → AccountListed (accountOf b l) n numbers′ (record { pairs = r .first; lines = t })
+    → AccountListed (accountOf b l) n numbers′ (record { first = r .first; lines = t })
 account-listed b l n table left numbers numbers′ r t k en up f =
     let a = accountOf b l in
     let p : PairedBy n a left numbers (r .pairs) = subst (λ (m : ℕ). PairedBy m a left numbers (r .pairs)) (add-zero n) (up .paired) in
@@ -111,7 +111,7 @@ account-listed b l n table left numbers numbers′ r t k en up f =
     f .lines-are ∙ ap (λ x. x ++ leftLines a (nth left) (l .positions)) (p .lines-are)
     in
     record {
-      pairs-are = up .first-is;
+      first-is = up .first-is;
       count-is = count;
       lines-are = is ∙ all;
       pair-lines =

@@ -79,10 +79,10 @@ pub record RowsAsked (b : List ℕ) (l : Layout) (table left numbers : List ℕ)
 
 -- The lines of the account after `count` rounds of pairing, how many of them are of pairs, and the sum of their amounts.
 pub record AccountListed (a : Account) (count : ℕ) (numbers : List ℕ) (r : Listed) : Type 0 where
-  pub pairs-are : r .pairs ≡ length (pairsAfter a count)
+  pub first-is : r .first ≡ length (pairsAfter a count)
   pub count-is : r .lines .count ≡ length (linesAfter a count)
   pub lines-are : linesFrom numbers (r .lines .count) ≡ linesAfter a count
-  pub pair-lines : linesFrom numbers (r .pairs) ≡ pairLines a (pairsAfter a count)
+  pub pair-lines : linesFrom numbers (r .first) ≡ pairLines a (pairsAfter a count)
   pub total-is : r .lines .total ≡ sumOver lineAmount (linesAfter a count)
   pub total-most : r .lines .total ≤ 10_000_000_000_000_000 * mostLines
   pub numbers-length : length numbers ≡ mostNumbers

@@ -22,9 +22,9 @@ pub mod left;
 pub mod listing;
 pub mod premium;
 
-// How many lines are of pairs, and all lines.
+// How many of the first pairs asked for there are, and all lines.
 pub struct Listed {
-    pub pairs: usize,
+    pub first: usize,
     pub lines: Tally,
 }
 

@@ -25,7 +25,7 @@ pub fn list_lines(file: &[u8], l: Layout, count: u64, numbers: &mut [u64]) -> Li
     let made = pair_up(file, l, count, 0, &mut table, &mut left, numbers);
     let lines = left_rows(file, l, &table, &left, numbers, made.pairs);
     Listed {
-        pairs: made.first,
+        first: made.first,
         lines,
     }
 }

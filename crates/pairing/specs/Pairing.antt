@@ -55,7 +55,7 @@ pub record PairingAsked (b : List ℕ) (l : Layout) (table left numbers : List �
   pub room : mostNumbers ≤ length numbers
   pub contracts : (r : ℕ) → r < l .positions → nth left r ≡ available (accountOf b l) r
 
--- After n rounds, of which `count` made a pair.
+-- After n rounds, of which t .count made a pair.
 pub record PairedBy (n : ℕ) (a : Account) (left numbers : List ℕ) (t : Tally) : Type 0 where
   pub count-is : t .count ≡ length (pairsAfter a n)
   pub total-is : t .total ≡ sumOver (spreadAmount a) (pairsAfter a n)
@@ -69,14 +69,15 @@ pub record RoundsAsked (b : List ℕ) (l : Layout) (left numbers table tree plac
   pub room : mostNumbers ≤ length numbers
   pub paired : PairedBy (before .count) (accountOf b l) left numbers before
 
--- After n rounds; the rows still stand, for further rounds.
+-- After n rounds. As many rounds as there are pairs give the same, and the rows still stand, so that further rounds go on from
+-- there.
 pub record RoundsMade (n : ℕ) (a : Account) (left numbers table tree places : List ℕ) (t : Tally) : Type 0 where
   pub paired : PairedBy n a left numbers t
   pub one-each : PairedBy (t .count) a left numbers t
   pub standings : Standings a left table tree places
 
--- The pairs of the first `count` rounds counted, those of as many more as allowed made, and the unit margins of the written
--- rows in the table.
+-- The pairs of the first `count` rounds and of as many more as allowed, how many the first are, and the unit margins of the
+-- written rows in the table.
 pub record PairedUp (a : Account) (count allowance : ℕ) (table left numbers : List ℕ) (r : Instalment) : Type 0 where
   pub first-is : r .first ≡ length (pairsAfter a count)
   pub paired : PairedBy (count + allowance) a left numbers (r .pairs)

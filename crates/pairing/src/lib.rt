@@ -44,7 +44,7 @@ pub struct Tally {
     pub total: u64,
 }
 
-// The pairs of a call: how many of the first ones asked for there are, and all pairs then.
+// The pairs after a call: how many of the first `count` there are, and all that are then made.
 pub struct Instalment {
     pub first: usize,
     pub pairs: Tally,

@@ -15,8 +15,8 @@ ghost use Prim.Native.Nat.{_+_};
 ghost use Rattle.pairing.specs.Pairing.{PairedUp, PairingAsked, RoundsAsked, RoundsMade};
 ghost use Rattle.rules.specs.File.{accountOf};
 
-// Round by round after the pairs that there are: the pair of the least rank, until no row has one or no more is allowed. With
-// each pair the allowance falls.
+// Round by round after the pairs that there are: the pair of the least rank, until no row has one or as many are made as
+// allowed at most. With each pair the allowance falls.
 fn pair_rounds(
     file: &[u8],
     l: Layout,
@@ -26,14 +26,14 @@ fn pair_rounds(
     tree: &mut [u64],
     places: &mut [u64],
     before: Tally,
-    allowed: u64,
+    most: u64,
 ) -> Tally
     requires { ⌜ RoundsAsked (now file) l (now left) (now numbers) (now table) (now tree) (now places) before ⌝ }
-    ensures { λ t. ⌜ RoundsMade (before .count + allowed) (accountOf (now (file .entry)) l) (now (left .exit)) (now (numbers .exit)) (now (table .entry)) (now (tree .exit)) (now (places .exit)) t ⌝ }
+    ensures { λ t. ⌜ RoundsMade (before .count + most) (accountOf (now (file .entry)) l) (now (left .exit)) (now (numbers .exit)) (now (table .entry)) (now (tree .exit)) (now (places .exit)) t ⌝ }
 {
     let mut k = before.count;
     let mut total = before.total;
-    let mut allowance = allowed;
+    let mut allowance = most;
     while 0 < allowance {
         let m = best_rank(file, l, left, table, tree, places);
         if NONE <= m {

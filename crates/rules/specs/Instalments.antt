@@ -1,5 +1,5 @@
--- Document 02 [7], Pairing in instalments: what a call makes of the pairs in the caller's list, the amount between calls, and
--- what is promised of both for every accepted file.
+-- Document 02 [7], Pairing in instalments: which pairs a call makes, what the caller's list holds then, the amount between
+-- calls, and what is promised of them for every accepted file.
 use Prim.Native.Nat.{ℕ, _+_, _*_, _-_, _≤_, _<_, min}
 use mathlib.Core.Bool.{Bool, true, false, not, _&&_, _||_}
 use mathlib.Core.List.{List, [], _∷_, _++_}
@@ -23,7 +23,7 @@ use Rattle.rules.specs.declared.PairAnswer.{PairAnswer}
 use Rattle.rules.specs.declared.PairAnswer.the-variants.{Paired, NotPaired}
 use Rattle.rules.specs.declared.Refusal.the-variants.{ListTooShort, NotFirstPairs}
 
--- "the full pairing": all pairs of an account, as made.
+-- "the full pairing": all pairs of an account, as made. p rounds are enough (`Lines.lines`).
 abbrev pub allPairs : Account → List Made
 allPairs a = pairsAfter a (a .positions)
 
@@ -96,7 +96,8 @@ unfoldable pub listPaired : List ℕ → List Line → ℕ → ℕ → List Line
 listPaired b out count allowance = listFor b out count (fileRead b) (pairAnswer b out count allowance)
 
 -- "Between calls the account's amount may be requested: pairs so far, every remainder by the amount of its left line (0 if
--- held), and the premiums": the total after `count` rounds of pairing, each of which makes a pair (`Counts.made-take`).
+-- held), and the premiums": the total after `count` rounds of pairing, each of which makes a pair
+-- (`InstalmentLaws.first-after`).
 abbrev pub amountUnless : Fault → ℕ → AmountAnswer
 amountUnless Clean amount = Amount amount
 amountUnless (Found w) amount = NoAmount w 0
@@ -125,56 +126,59 @@ pairsTold (NotPaired w i) = 0
 
 -- After a call with this allowance.
 abbrev pub afterCall : List ℕ → ℕ → PairedList → PairedList
-afterCall b allowance s =
+afterCall b allowance kept =
     record {
-      list = listPaired b (s .list) (s .count) allowance;
-      count = s .count + pairsTold (pairAnswer b (s .list) (s .count) allowance);
+      list = listPaired b (kept .list) (kept .count) allowance;
+      count = kept .count + pairsTold (pairAnswer b (kept .list) (kept .count) allowance);
     }
 
 -- After a call for each of the allowances, one after the other.
 unfoldable pub afterCalls : List ℕ → List ℕ → PairedList → PairedList
-afterCalls b [] s = s
-afterCalls b (allowance ∷ rest) s = afterCalls b rest (afterCall b allowance s)
+afterCalls b [] kept = kept
+afterCalls b (allowance ∷ rest) kept = afterCalls b rest (afterCall b allowance kept)
 
 -- "For every list of allowances, begun with no pair lines": what is promised of the list then, n being what the allowances
 -- add up to.
-pub record AfterAllowances (b : List ℕ) (a : Account) (out : List Line) (n : ℕ) (s : PairedList) : Type 0 where
+pub record AfterAllowances (b : List ℕ) (a : Account) (out : List Line) (n : ℕ) (kept : PairedList) : Type 0 where
   -- "as many as the allowances add up to or all"
-  pub count-is : s .count ≡ min n (length (allPairs a))
+  pub count-is : kept .count ≡ min n (length (allPairs a))
   -- "the pairs after it are the first ones of the full pairing", and every other entry is as it was
-  pub list-is : s .list ≡ firstPairs a n ++ drop (s .count) out
+  pub list-is : kept .list ≡ firstPairs a n ++ drop (kept .count) out
   -- the next call is not refused,
-  pub next-is : (allowance : ℕ) → pairAnswer b (s .list) (s .count) allowance ≡ Paired (madeOf a (s .count) allowance)
-  -- and the amount is that after n rounds.
-  pub amount-is : amountSoFar b (s .list) (s .count) ≡ Amount (totalAfter a n)
+  pub next-is : (allowance : ℕ) → pairAnswer b (kept .list) (kept .count) allowance ≡ Paired (madeOf a (kept .count) allowance)
+  -- and the amount is that after n rounds (a round that finds no pair changes nothing).
+  pub amount-is : amountSoFar b (kept .list) (kept .count) ≡ Amount (totalAfter a n)
 
 -- "every remainder": the left lines of the rows with contracts left after n pairs. Instalments do not write them.
 abbrev pub remainders : Account → ℕ → List Line
 remainders a n = leftLines a (contractsAfter a n) (a .positions)
 
--- What is promised of a half-paired account: of an amount x that is answered for a list with `count` pair lines.
-pub record HalfPaired (a : Account) (pairs : List Line) (count x : ℕ) : Type 0 where
+-- What is promised of a half-paired account: of an amount that is answered for a list with `count` pair lines.
+pub record HalfPaired (a : Account) (pairs : List Line) (count amount : ℕ) : Type 0 where
   pub pairs-are : pairs ≡ firstPairs a count
   -- "pairs so far, every remainder by the amount of its left line (0 if held), and the premiums"
-  pub amount-is : x ≡ sumOver lineAmount pairs + sumOver lineAmount (remainders a count) + premiums a
-  -- no larger than the largest total (document 02 [6])
-  pub amount-most : x ≤ mostTotal
+  pub amount-is : amount ≡ sumOver lineAmount pairs + sumOver lineAmount (remainders a count) + premiums a
+  -- no larger than the largest total (`Reais.mostTotal`)
+  pub amount-most : amount ≤ mostTotal
   -- the amount after all pairs is the total
-  pub all-paired : count ≡ length (allPairs a) → x ≡ total a
-  -- "A half-paired account must be covered on every path too": with x for the total and the pairs in the list
+  pub all-paired : count ≡ length (allPairs a) → amount ≡ total a
+  -- "A half-paired account must be covered on every path too", where every fb is at most 1,000,000: with the amount for the
+  -- total, and the pairs in the list
   pub covered : LowFactors a → (path : ℕ → List ℕ) → OnePathEach a path
-      → writtenPayOut a path ≤ x * 1_000_000 + sumOver (lineBringsIn a path) pairs
+      → writtenPayOut a path ≤ amount * 1_000_000 + sumOver (lineBringsIn a path) pairs
   -- the contracts of each row add up to Q: those of the pair lines in the list that name it and those of its remainder
   pub contracts : (r : ℕ) → r < a .positions
       → sumOver (pairQuantity r) pairs + sumOver (leftQuantity r) (remainders a count) ≡ a .positionAt r .q
 
--- Of a file: for whatever account its bytes mean, every list and every count.
+-- Of a file: for whatever account its bytes mean, every list of at least p entries (a shorter one is refused with 12) and
+-- every list of allowances;
 abbrev pub AllowancesDemand : List ℕ → Type 0
 AllowancesDemand b =
     (a : Account) → meaning b ≡ accepted a → (out : List Line) → a .positions ≤ length out → (allowances : List ℕ)
     → AfterAllowances b a out (sumOver (λ n. n) allowances) (afterCalls b allowances (begun out))
 
+-- and every list and count for which an amount is answered.
 abbrev pub HalfPairedDemand : List ℕ → Type 0
 HalfPairedDemand b =
-    (a : Account) → meaning b ≡ accepted a → (out : List Line) (count x : ℕ) → amountSoFar b out count ≡ Amount x
-    → HalfPaired a (take count out) count x
+    (a : Account) → meaning b ≡ accepted a → (out : List Line) (count amount : ℕ) → amountSoFar b out count ≡ Amount amount
+    → HalfPaired a (take count out) count amount

@@ -21,7 +21,7 @@ use Rattle.rules.specs.declared.Refusal.the-variants.{FileSize, Trailer,
 use Rattle.rules.specs.declared.SeriesRow.{SeriesRow}
 
 -- The table's column "Number". Refusals 1 to 11 are a file's and tested here; 12 is tested in `Lines.marginForList`, for
--- the caller's list, and 13 in `OnePosition.amountForRow`, for the row asked for, each after the file. Document 02, request
+-- the caller's list (and in `Instalments.instalmentChecks`), and 13 in `OnePosition.amountForRow`, for the row asked for, each after the file. Document 02, request
 -- 1: "Refusal 3 is withdrawn." Its number is given to nothing else. Request 2's 14 is no file's: it is tested in `FactorsAre`
 -- of crate factors. Request 5's 16 and 17 are a day's, tested in `Day.dayChecks` after the file. No request gives 15.
 -- Request 7's 18 is tested in `Instalments.instalmentChecks`, after 12.

@@ -147,7 +147,7 @@ pub enum Refusal {
     NotFirstPairs,
 }
 
-// What the checks of the trailer, of a row or of a day find.
+// What the checks of the trailer, of a row, of a day or of the lines in a list find.
 pub enum Fault {
     Clean,
     Found(Refusal),
@@ -165,7 +165,7 @@ pub enum FileRead {
     Refused(Refusal, usize),
 }
 
-// One position's amount in centavos, or the refusal with its row.
+// An amount in centavos, of one position, of the premiums or of an account between calls; or the refusal with its row.
 pub enum AmountAnswer {
     Amount(u64),
     NoAmount(Refusal, usize),
@@ -208,7 +208,8 @@ pub enum DayAnswer {
     NotApplied(Refusal, usize),
 }
 
-// A call of the pairing in instalments: how many pairs it made, or the refusal with its row.
+// A call of the pairing in instalments: how many pairs it made, or the refusal with its row. It is what the definitions
+// answer; the code goes from what it has worked out to the numbers that a C program is told.
 pub enum PairAnswer {
     Paired(usize),
     NotPaired(Refusal, usize),

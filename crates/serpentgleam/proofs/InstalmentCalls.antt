@@ -1,8 +1,8 @@
 -- The calls that the pairing in instalments makes, each as one step, in the manner of `Calls.antt`. Assumes `Given`.
 --     calls-next       `next_pairs`, to which the numbers are lent. The operands are looked up where they stand before the step
 --     calls-amount     `amount_after`, in the same way
---     calls-there      `lines_there`. Here and in the next two the operands are looked up one entry further
---     calls-then       `lines_then`
+--     calls-compared      `lines_compared`. Here and in the next two the operands are looked up one entry further
+--     calls-after       `lines_after`
 --     calls-told       `told`
 -- `agree` and `write_entries` are in crate `lent` (`AgreeCall.antt`, `WriteCall.antt`).
 use Rattle.lent.proofs.Walk.{_≡_, refl, Bool, ℕ, _<_, _^_, [], _∷_, List, length, URA, fullShare, named, w64, Val, vint, vbool, SProp, ent, id⊢, emp, Lft, Share, GName, Fml, ftrue, flft, flent, Memory, Routine, Heap, Env, Calls, Loops, Atoms, Fun, Ends, lands, Given, Item, runs, ‵, raw, _⊛_, ⋆, _$_, _∵_, !, qed, move, use1, split, join, rewrite, fsplit, fjoin, feqI, frame, done, drop, use3, feqL, Seq, FmC, Is, uint-makes, usize, u64, u8, RefT, sliceVal, MutSlice, ShrSlice, shr-slice-copy, Held, row, owned, nothing, tripleOf, Contract, Triple, calls-at, lasts, says}
@@ -24,10 +24,10 @@ use Rattle.instalments.proofs.next_pairs as next-pairs
 use Rattle.instalments.proofs.next_pairs.Symbol.{name as #instalments·next-pairs}
 use Rattle.instalments.proofs.amount_after as amount-after
 use Rattle.instalments.proofs.amount_after.Symbol.{name as #instalments·amount-after}
-use Rattle.instalments.proofs.lines_there as lines-there
-use Rattle.instalments.proofs.lines_there.Symbol.{name as #instalments·lines-there}
-use Rattle.instalments.proofs.lines_then as lines-then
-use Rattle.instalments.proofs.lines_then.Symbol.{name as #instalments·lines-then}
+use Rattle.instalments.proofs.lines_compared as lines-compared
+use Rattle.instalments.proofs.lines_compared.Symbol.{name as #instalments·lines-compared}
+use Rattle.instalments.proofs.lines_after as lines-after
+use Rattle.instalments.proofs.lines_after.Symbol.{name as #instalments·lines-after}
 use Rattle.serpentgleam.proofs.told as told
 use Rattle.serpentgleam.proofs.told.Symbol.{name as #serpentgleam·told}
 
@@ -39,28 +39,28 @@ module _ {M : Type 1} (𝓤 : URA M) (H : Heap 𝓤) (A : Atoms 𝓤) (mem : Mem
   abbrev pub AmountAfter : Contract 𝓤
   AmountAfter = tripleOf 𝓤 H A amount-after.signature (amount-after.spec 𝓤 H A mem run)
 
-  abbrev pub LinesThere : Contract 𝓤
-  LinesThere = tripleOf 𝓤 H A lines-there.signature (lines-there.spec 𝓤 H A mem run)
+  abbrev pub LinesCompared : Contract 𝓤
+  LinesCompared = tripleOf 𝓤 H A lines-compared.signature (lines-compared.spec 𝓤 H A mem run)
 
-  abbrev pub LinesThen : Contract 𝓤
-  LinesThen = tripleOf 𝓤 H A lines-then.signature (lines-then.spec 𝓤 H A mem run)
+  abbrev pub LinesAfter : Contract 𝓤
+  LinesAfter = tripleOf 𝓤 H A lines-after.signature (lines-after.spec 𝓤 H A mem run)
 
   abbrev pub Told : Contract 𝓤
   Told = tripleOf 𝓤 H A told.signature (told.spec 𝓤 H A mem run)
 
--- `lines_there`, `lines_then` and `told` of what a call has worked out, r with the machine value w.
+-- `lines_compared`, `lines_after` and `told` of what a call has worked out, r with the machine value w.
 module _ {M : Type 1} (𝓤 : URA M) (H : Heap 𝓤) (A : Atoms 𝓤) (W : Given 𝓤 H A) (mem : Memory → SProp 𝓤) (run : Routine → Fun 𝓤) (r : CallLines) (w : Val) (is : Is E.the-row r (w ∷ [])) where
-  abbrev to-there : LinesThere 𝓤 H A mem run .Ghost
-  to-there = ((tt, tt, tt, (r, tt), (w ∷ [], tt)), tt)
+  abbrev to-compared : LinesCompared 𝓤 H A mem run .Ghost
+  to-compared = ((tt, tt, tt, (r, tt), (w ∷ [], tt)), tt)
 
-  goes-there : ent 𝓤 (emp 𝓤) (LinesThere 𝓤 H A mem run .pre to-there)
-  goes-there = qed W [] ∵ nothing ! $ owned ! E.the-row (Is E.the-row) (EL.makes E.the-type E′.the-plain 𝓤 H A) r (w ∷ []) is $ fjoin ! $ nothing ! $ join ! $ frame ! $ done !
+  goes-compared : ent 𝓤 (emp 𝓤) (LinesCompared 𝓤 H A mem run .pre to-compared)
+  goes-compared = qed W [] ∵ nothing ! $ owned ! E.the-row (Is E.the-row) (EL.makes E.the-type E′.the-plain 𝓤 H A) r (w ∷ []) is $ fjoin ! $ nothing ! $ join ! $ frame ! $ done !
 
-  abbrev to-then : Bool → LinesThen 𝓤 H A mem run .Ghost
-  to-then same = ((tt, tt, tt, (r, (same, tt)), (w ∷ [], (vbool same ∷ [], tt))), tt)
+  abbrev to-after : Bool → LinesAfter 𝓤 H A mem run .Ghost
+  to-after same = ((tt, tt, tt, (r, (same, tt)), (w ∷ [], (vbool same ∷ [], tt))), tt)
 
-  goes-then : (same : Bool) → ent 𝓤 (emp 𝓤) (LinesThen 𝓤 H A mem run .pre (to-then same))
-  goes-then same =
+  goes-after : (same : Bool) → ent 𝓤 (emp 𝓤) (LinesAfter 𝓤 H A mem run .pre (to-after same))
+  goes-after same =
       qed W [] ∵ nothing ! $ feqI ! (List Val) (vbool same ∷ []) (vbool same ∷ []) refl $ fjoin ! $ owned ! E.the-row (Is E.the-row) (EL.makes E.the-type E′.the-plain 𝓤 H A) r (w ∷ []) is $ fjoin ! $ nothing ! $ join ! $ frame ! $ done !
 
   abbrev to-told : Bool → Told 𝓤 H A mem run .Ghost
@@ -71,13 +71,13 @@ module _ {M : Type 1} (𝓤 : URA M) (H : Heap 𝓤) (A : Atoms 𝓤) (W : Given
       qed W [] ∵ nothing ! $ feqI ! (List Val) (vbool same ∷ []) (vbool same ∷ []) refl $ fjoin ! $ owned ! E.the-row (Is E.the-row) (EL.makes E.the-type E′.the-plain 𝓤 H A) r (w ∷ []) is $ fjoin ! $ nothing ! $ join ! $ frame ! $ done !
 
   module _ {K : Type 0} {Γ : List (Item 𝓤)} {En : Env 𝓤 H} {C : Calls 𝓤 H} {Λ : Loops 𝓤 H} {q : Ends 𝓤 H} {xs : List Operand} {d : Place} {rest : Body} where
-    pub calls-there : K → FmC 𝓤 H (W .laws) C → Triple 𝓤 (C #instalments·lines-there) (LinesThere 𝓤 H A mem run) → Opds K W (raw (LinesThere 𝓤 H A mem run .pre to-there) ∷ Γ) En xs (w ∷ [])
-        → ((v : Val) (n : ℕ) → n ≡ start r → Is usize n (v ∷ []) → Seq K W Γ (lands C Λ En d v rest q)) → Seq K W Γ (runs C Λ En (seq (call #instalments·lines-there xs d) rest) q)
-    calls-there t fm known = calls-plain t fm (LinesThere 𝓤 H A mem run) known to-there goes-there usize (lasts lines-there.ended tt (r, tt)) (λ (n : ℕ). n ≡ start r) (λ _. id⊢ 𝓤 _)
+    pub calls-compared : K → FmC 𝓤 H (W .laws) C → Triple 𝓤 (C #instalments·lines-compared) (LinesCompared 𝓤 H A mem run) → Opds K W (raw (LinesCompared 𝓤 H A mem run .pre to-compared) ∷ Γ) En xs (w ∷ [])
+        → ((v : Val) (n : ℕ) → n ≡ start r → Is usize n (v ∷ []) → Seq K W Γ (lands C Λ En d v rest q)) → Seq K W Γ (runs C Λ En (seq (call #instalments·lines-compared xs d) rest) q)
+    calls-compared t fm known = calls-plain t fm (LinesCompared 𝓤 H A mem run) known to-compared goes-compared usize (lasts lines-compared.ended tt (r, tt)) (λ (n : ℕ). n ≡ start r) (λ _. id⊢ 𝓤 _)
 
-    pub calls-then : K → (same : Bool) → FmC 𝓤 H (W .laws) C → Triple 𝓤 (C #instalments·lines-then) (LinesThen 𝓤 H A mem run) → Opds K W (raw (LinesThen 𝓤 H A mem run .pre (to-then same)) ∷ Γ) En xs (w ∷ vbool same ∷ [])
-        → ((v : Val) (n : ℕ) → n ≡ end r same → Is usize n (v ∷ []) → Seq K W Γ (lands C Λ En d v rest q)) → Seq K W Γ (runs C Λ En (seq (call #instalments·lines-then xs d) rest) q)
-    calls-then t same fm known = calls-plain t fm (LinesThen 𝓤 H A mem run) known (to-then same) (goes-then same) usize (lasts lines-then.ended tt (r, (same, tt))) (λ (n : ℕ). n ≡ end r same) (λ _. id⊢ 𝓤 _)
+    pub calls-after : K → (same : Bool) → FmC 𝓤 H (W .laws) C → Triple 𝓤 (C #instalments·lines-after) (LinesAfter 𝓤 H A mem run) → Opds K W (raw (LinesAfter 𝓤 H A mem run .pre (to-after same)) ∷ Γ) En xs (w ∷ vbool same ∷ [])
+        → ((v : Val) (n : ℕ) → n ≡ end r same → Is usize n (v ∷ []) → Seq K W Γ (lands C Λ En d v rest q)) → Seq K W Γ (runs C Λ En (seq (call #instalments·lines-after xs d) rest) q)
+    calls-after t same fm known = calls-plain t fm (LinesAfter 𝓤 H A mem run) known (to-after same) (goes-after same) usize (lasts lines-after.ended tt (r, (same, tt))) (λ (n : ℕ). n ≡ end r same) (λ _. id⊢ 𝓤 _)
 
     pub calls-told : K → (same : Bool) → FmC 𝓤 H (W .laws) C → Triple 𝓤 (C #serpentgleam·told) (Told 𝓤 H A mem run) → Opds K W (raw (Told 𝓤 H A mem run .pre (to-told same)) ∷ Γ) En xs (w ∷ vbool same ∷ [])
         → ((v : Val) (m : Answer) → m ≡ toldNumbers r same → Is N.the-row m (v ∷ []) → Seq K W Γ (lands C Λ En d v rest q)) → Seq K W Γ (runs C Λ En (seq (call #serpentgleam·told xs d) rest) q)

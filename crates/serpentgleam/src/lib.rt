@@ -5,8 +5,8 @@ use factors::FactorsAnswer;
 use factors::factors;
 use instalments::CallLines;
 use instalments::amount_after;
-use instalments::lines_then;
-use instalments::lines_there;
+use instalments::lines_after;
+use instalments::lines_compared;
 use instalments::next_pairs;
 use lent::agree;
 use lent::write_entries;
@@ -64,8 +64,8 @@ fn numbers_of(answer: MarginAnswer) -> Margin
     }
 }
 
-// A number asked of a file, or a day applied to it, the header's `serpentgleam_answer`: 0, 0 and the number, 0 for a day; or
-// the refusal's number, its row and 0.
+// A number asked of a file, how many pairs a call made, or a day applied to it, the header's `serpentgleam_answer`: 0, 0 and
+// the number, 0 for a day; or the refusal's number, its row and 0.
 #[repr(C)]
 pub struct Answer {
     pub refusal: u64,
@@ -225,7 +225,8 @@ pub extern "C" fn serpentgleam_day(
 }
 
 // The next pairs of the file, as many as allowed, after the `count` pair lines that the caller's list begins with: how many
-// were made, and their lines in the list; or the refusal, on which the list keeps its content. Any numbers may be handed over.
+// were made, and their lines in the list; or the refusal, on which the list keeps its content. Any bytes, any list and any
+// numbers may be handed over.
 #[no_mangle]
 pub extern "C" fn serpentgleam_pair(
     file: &[u8],
@@ -238,22 +239,22 @@ pub extern "C" fn serpentgleam_pair(
 {
     let mut numbers = [0u64; MOST_NUMBERS];
     let ready = next_pairs(file, lines.len(), count, allowance, &mut numbers);
-    let there = lines_there(ready);
-    let same = agree(lines, there, &numbers);
-    let then = lines_then(ready, same);
-    write_entries(lines, there, then, &numbers);
+    let first = lines_compared(ready);
+    let same = agree(lines, first, &numbers);
+    let last = lines_after(ready, same);
+    write_entries(lines, first, last, &numbers);
     told(ready, same)
 }
 
-// The amount of the file after the `count` pairs whose lines the caller's list begins with, or the refusal. The list is read
-// alone.
+// The amount of the file after the `count` pairs whose lines the caller's list begins with, or the refusal. The list is only
+// read. Any bytes, any list and any count may be handed over.
 #[no_mangle]
 pub extern "C" fn serpentgleam_amount_so_far(file: &[u8], lines: &[Line], count: u64) -> Answer
     ensures { λ r. ⌜ r ≡ answerNumbers (amountSoFar (now (file .entry)) (now (lines .entry)) count) ⌝ }
 {
     let mut numbers = [0u64; MOST_NUMBERS];
     let ready = amount_after(file, lines.len(), count, &mut numbers);
-    let there = lines_there(ready);
-    let same = agree(lines, there, &numbers);
+    let first = lines_compared(ready);
+    let same = agree(lines, first, &numbers);
     told(ready, same)
 }

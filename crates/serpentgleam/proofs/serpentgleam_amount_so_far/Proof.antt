@@ -11,7 +11,7 @@ use Rattle.serpentgleam.specs.declared.Answer.{Answer}
 use Rattle.lent.proofs.AgreeCall.{Agree, calls-agree-shared}
 use Rattle.lent.proofs.Locals.{fills, free-cell, lands-in, local}
 use Rattle.lent.proofs.Zeros.{init-zeros, rows-room, zeros, zeros-length}
-use Rattle.serpentgleam.proofs.InstalmentCalls.{AmountAfter, LinesThere, Told, calls-amount, calls-there, calls-told}
+use Rattle.serpentgleam.proofs.InstalmentCalls.{AmountAfter, LinesCompared, Told, calls-amount, calls-compared, calls-told}
 use Rattle.serpentgleam.proofs.Instalments.{amount-so-far, compared-fit}
 use Rattle.instalments.proofs.CallLines as E
 use Rattle.instalments.proofs.CallLines.Laws as E′
@@ -21,9 +21,9 @@ use Rattle.serpentgleam.proofs.Answer.Laws as N′
 use Rattle.instalments.proofs.amount_after.Symbol as amount-after-def
 use Rattle.instalments.proofs.amount_after.Symbol.{name as #instalments·amount-after}
 use Rattle.instalments.proofs.amount_after.Met as amount-after-thm
-use Rattle.instalments.proofs.lines_there.Symbol as lines-there-def
-use Rattle.instalments.proofs.lines_there.Symbol.{name as #instalments·lines-there}
-use Rattle.instalments.proofs.lines_there.Met as lines-there-thm
+use Rattle.instalments.proofs.lines_compared.Symbol as lines-compared-def
+use Rattle.instalments.proofs.lines_compared.Symbol.{name as #instalments·lines-compared}
+use Rattle.instalments.proofs.lines_compared.Met as lines-compared-thm
 use Rattle.lent.proofs.agree.Symbol as agree-def
 use Rattle.lent.proofs.agree.Symbol.{name as #lent·agree}
 use Rattle.lent.proofs.agree.Met as agree-thm
@@ -42,7 +42,7 @@ stayed = (stay-none-slice (0 ∷ []) tt (plain (λ _. u8)) yes, (stay-none-slice
 -- Each callee meets its contract.
 record Known {M : Type 1} (𝓤 : URA M) (H : Heap 𝓤) (A : Atoms 𝓤) (mem : Memory → SProp 𝓤) (run : Routine → Fun 𝓤) (C : Calls 𝓤 H) : Type 1 where
   k-amount-after : Triple 𝓤 (C #instalments·amount-after) (AmountAfter 𝓤 H A mem run)
-  k-lines-there : Triple 𝓤 (C #instalments·lines-there) (LinesThere 𝓤 H A mem run)
+  k-lines-compared : Triple 𝓤 (C #instalments·lines-compared) (LinesCompared 𝓤 H A mem run)
   k-agree : Triple 𝓤 (C #lent·agree) (Agree 𝓤 H A mem run)
   k-told : Triple 𝓤 (C #serpentgleam·told) (Told 𝓤 H A mem run)
 
@@ -101,7 +101,7 @@ module _ {M : Type 1} (𝓤 : URA M) (H : Heap 𝓤) (A : Atoms 𝓤) (W : Given
         fills ! (agg ! (and-then ! (local ! 11 refl) (and-then ! (lit ! tt) (no-more !)))) 9 refl (tt, (tt, (record { fits = lit< tt }, tt))) $
         calls-amount 𝓤 H A W mem run κ q f (length ys) count (room′ .0) count-fits l₄ zeros zeros-length ! fm (known .k-amount-after) (λ ν δ. (and-then ! (local ! 26 refl) (and-then ! (local ! 13 refl) (and-then ! (local ! 22 refl) (and-then ! (local ! 9 refl) (no-more !)))))) (λ w r numbers ready is-r.
         lands-in ! 19 refl (EL.lawful E.the-type E′.the-laws 𝓤 H A W tt .typed r _ is-r .0) $
-        calls-there 𝓤 H A W mem run r w is-r ! fm (known .k-lines-there) (and-then ! (local ! 20 refl) (no-more !)) (λ _ there e is-there.
+        calls-compared 𝓤 H A W mem run r w is-r ! fm (known .k-lines-compared) (and-then ! (local ! 20 refl) (no-more !)) (λ _ there e is-there.
         lands-in ! 17 refl (uint-lawful 𝓤 H A W w64 .typed there _ is-there .0) $ rewrite ! 17 (λ (v : Val). ‵ (fat fullShare (tyInt w64) l₆ 0 v)) (ap only (is-there .0)) refl $
         fills ! (addr ! (from ! (stop !))) 7 refl (tt, tt) $
         fills ! (agg ! (and-then ! (local ! 7 refl) (and-then ! (lit ! tt) (no-more !)))) 5 refl (tt, (tt, (record { fits = lit< tt }, tt))) $
@@ -132,7 +132,7 @@ serpentgleam-amount-so-far-spec 𝓤 H 𝓜 𝓖 𝓡 =
     (tables 𝓤 H 𝓜 𝓡 code.env .C) (tables 𝓤 H 𝓜 𝓡 code.env .Λ) #serpentgleam·serpentgleam-amount-so-far code.function (code.unfolded 𝓤 H 𝓜 𝓡)
     (operation-meets 𝓤 H (𝓖 .A) (givenOf 𝓤 H 𝓜 𝓖) (𝓜 .mem) (𝓡 .run) (tablesOf 𝓤 H 𝓜 (tables 𝓤 H 𝓜 𝓡 code.env)) (record {
       k-amount-after = cited 𝓤 H (AmountAfter 𝓤 H (𝓖 .A) (𝓜 .mem) (𝓡 .run)) 𝓜 𝓡 code.env #instalments·amount-after amount-after-def.routine code.calls-instalments·amount-after (amount-after-thm.met 𝓤 H 𝓜 𝓖 𝓡);
-      k-lines-there = cited 𝓤 H (LinesThere 𝓤 H (𝓖 .A) (𝓜 .mem) (𝓡 .run)) 𝓜 𝓡 code.env #instalments·lines-there lines-there-def.routine code.calls-instalments·lines-there (lines-there-thm.met 𝓤 H 𝓜 𝓖 𝓡);
+      k-lines-compared = cited 𝓤 H (LinesCompared 𝓤 H (𝓖 .A) (𝓜 .mem) (𝓡 .run)) 𝓜 𝓡 code.env #instalments·lines-compared lines-compared-def.routine code.calls-instalments·lines-compared (lines-compared-thm.met 𝓤 H 𝓜 𝓖 𝓡);
       k-agree = cited 𝓤 H (Agree 𝓤 H (𝓖 .A) (𝓜 .mem) (𝓡 .run)) 𝓜 𝓡 code.env #lent·agree agree-def.routine code.calls-lent·agree (agree-thm.met 𝓤 H 𝓜 𝓖 𝓡);
       k-told = cited 𝓤 H (Told 𝓤 H (𝓖 .A) (𝓜 .mem) (𝓡 .run)) 𝓜 𝓡 code.env #serpentgleam·told told-def.routine code.calls-serpentgleam·told (told-thm.met 𝓤 H 𝓜 𝓖 𝓡);
     }))

@@ -15,7 +15,7 @@ use Rattle.lent.proofs.Locals.{fills, free-cell, lands-in, local}
 use Rattle.lent.proofs.Several.{says-both}
 use Rattle.lent.proofs.WriteCall.{WriteEntries, calls-write}
 use Rattle.lent.proofs.Zeros.{init-zeros, rows-room, zeros, zeros-length}
-use Rattle.serpentgleam.proofs.InstalmentCalls.{LinesThen, LinesThere, NextPairs, Told, calls-next, calls-then, calls-there, calls-told}
+use Rattle.serpentgleam.proofs.InstalmentCalls.{LinesAfter, LinesCompared, NextPairs, Told, calls-next, calls-after, calls-compared, calls-told}
 use Rattle.serpentgleam.proofs.Instalments.{compared-fit, pairs-told, pairs-written, written-fit}
 use Rattle.instalments.proofs.CallLines as E
 use Rattle.instalments.proofs.CallLines.Laws as E′
@@ -25,15 +25,15 @@ use Rattle.serpentgleam.proofs.Answer.Laws as N′
 use Rattle.instalments.proofs.next_pairs.Symbol as next-pairs-def
 use Rattle.instalments.proofs.next_pairs.Symbol.{name as #instalments·next-pairs}
 use Rattle.instalments.proofs.next_pairs.Met as next-pairs-thm
-use Rattle.instalments.proofs.lines_there.Symbol as lines-there-def
-use Rattle.instalments.proofs.lines_there.Symbol.{name as #instalments·lines-there}
-use Rattle.instalments.proofs.lines_there.Met as lines-there-thm
+use Rattle.instalments.proofs.lines_compared.Symbol as lines-compared-def
+use Rattle.instalments.proofs.lines_compared.Symbol.{name as #instalments·lines-compared}
+use Rattle.instalments.proofs.lines_compared.Met as lines-compared-thm
 use Rattle.lent.proofs.agree.Symbol as agree-def
 use Rattle.lent.proofs.agree.Symbol.{name as #lent·agree}
 use Rattle.lent.proofs.agree.Met as agree-thm
-use Rattle.instalments.proofs.lines_then.Symbol as lines-then-def
-use Rattle.instalments.proofs.lines_then.Symbol.{name as #instalments·lines-then}
-use Rattle.instalments.proofs.lines_then.Met as lines-then-thm
+use Rattle.instalments.proofs.lines_after.Symbol as lines-after-def
+use Rattle.instalments.proofs.lines_after.Symbol.{name as #instalments·lines-after}
+use Rattle.instalments.proofs.lines_after.Met as lines-after-thm
 use Rattle.lent.proofs.write_entries.Symbol as write-entries-def
 use Rattle.lent.proofs.write_entries.Symbol.{name as #lent·write-entries}
 use Rattle.lent.proofs.write_entries.Met as write-entries-thm
@@ -52,9 +52,9 @@ stayed = (stay-none-slice (0 ∷ []) tt (plain (λ _. u8)) yes, (gave-slice (1 �
 -- Each callee meets its contract.
 record Known {M : Type 1} (𝓤 : URA M) (H : Heap 𝓤) (A : Atoms 𝓤) (mem : Memory → SProp 𝓤) (run : Routine → Fun 𝓤) (C : Calls 𝓤 H) : Type 1 where
   k-next-pairs : Triple 𝓤 (C #instalments·next-pairs) (NextPairs 𝓤 H A mem run)
-  k-lines-there : Triple 𝓤 (C #instalments·lines-there) (LinesThere 𝓤 H A mem run)
+  k-lines-compared : Triple 𝓤 (C #instalments·lines-compared) (LinesCompared 𝓤 H A mem run)
   k-agree : Triple 𝓤 (C #lent·agree) (Agree 𝓤 H A mem run)
-  k-lines-then : Triple 𝓤 (C #instalments·lines-then) (LinesThen 𝓤 H A mem run)
+  k-lines-after : Triple 𝓤 (C #instalments·lines-after) (LinesAfter 𝓤 H A mem run)
   k-write-entries : Triple 𝓤 (C #lent·write-entries) (WriteEntries 𝓤 H A mem run)
   k-told : Triple 𝓤 (C #serpentgleam·told) (Told 𝓤 H A mem run)
 
@@ -110,7 +110,7 @@ module _ {M : Type 1} (𝓤 : URA M) (H : Heap 𝓤) (A : Atoms 𝓤) (W : Given
         fills ! (agg ! (and-then ! (local ! 25 refl) (and-then ! (lit ! tt) (no-more !)))) 23 refl (tt, (tt, (record { fits = lit< tt }, tt))) $
         calls-next 𝓤 H A W mem run κ q f (length ys) count (room′ .0) count-fits l₅ zeros zeros-length ! allowance allowance-fits fm (known .k-next-pairs) (λ ν δ. (and-then ! (local ! 44 refl) (and-then ! (local ! 27 refl) (and-then ! (local ! 40 refl) (and-then ! (local ! 38 refl) (and-then ! (local ! 23 refl) (no-more !))))))) (λ w r numbers ready is-r.
         lands-in ! 35 refl (EL.lawful E.the-type E′.the-laws 𝓤 H A W tt .typed r _ is-r .0) $
-        calls-there 𝓤 H A W mem run r w is-r ! fm (known .k-lines-there) (and-then ! (local ! 36 refl) (no-more !)) (λ _ there e is-there.
+        calls-compared 𝓤 H A W mem run r w is-r ! fm (known .k-lines-compared) (and-then ! (local ! 36 refl) (no-more !)) (λ _ there e is-there.
         lands-in ! 33 refl (uint-lawful 𝓤 H A W w64 .typed there _ is-there .0) $ rewrite ! 33 (λ (v : Val). ‵ (fat fullShare (tyInt w64) l₇ 0 v)) (ap only (is-there .0)) refl $
         fills ! (addr ! (from ! (fld ! refl (hop ! (look-in ! 42 (sub ! 0 refl (whole !))) (stop !))))) 21 refl (tt, tt) $
         fills ! (agg ! (and-then ! (local ! 21 refl) (and-then ! (load ! (from ! (fld ! refl (stop !))) (look-in ! 42 (sub ! 1 refl (whole !)))) (no-more !)))) 19 refl (tt, (tt, (record { fits = room′ .0 }, tt))) $
@@ -118,7 +118,7 @@ module _ {M : Type 1} (𝓤 : URA M) (H : Heap 𝓤) (A : Atoms 𝓤) (W : Given
         fills ! (agg ! (and-then ! (local ! 17 refl) (and-then ! (lit ! tt) (no-more !)))) 15 refl (tt, (tt, (record { fits = lit< tt }, tt))) $
         calls-agree 𝓤 H A W mem run κ′ q′ x room′ there (is-there .1) l₅ numbers (ready .numbers-length) (compared-fit file ys numbers _ r ready there e) ! fm (known .k-agree) (λ ν ν′ δ δ′. (and-then ! (local ! 19 refl) (and-then ! (local ! 33 refl) (and-then ! (local ! 15 refl) (no-more !))))) (λ _ same alike is-same.
         lands-in ! 31 refl (bool-lawful 𝓤 H A W .typed same _ is-same .0) $ rewrite ! 31 (λ (v : Val). ‵ (fat fullShare tyBool l₈ 0 v)) (ap only is-same) refl $
-        calls-then 𝓤 H A W mem run r w is-r ! same fm (known .k-lines-then) (and-then ! (local ! 36 refl) (and-then ! (local ! 32 refl) (no-more !))) (λ _ then e′ is-then.
+        calls-after 𝓤 H A W mem run r w is-r ! same fm (known .k-lines-after) (and-then ! (local ! 36 refl) (and-then ! (local ! 32 refl) (no-more !))) (λ _ then e′ is-then.
         lands-in ! 29 refl (uint-lawful 𝓤 H A W w64 .typed then _ is-then .0) $ rewrite ! 29 (λ (v : Val). ‵ (fat fullShare (tyInt w64) l₉ 0 v)) (ap only (is-then .0)) refl $
         fills ! (addr ! (from ! (fld ! refl (hop ! (look-in ! 42 (sub ! 0 refl (whole !))) (stop !))))) 11 refl (tt, tt) $
         fills ! (agg ! (and-then ! (local ! 11 refl) (and-then ! (load ! (from ! (fld ! refl (stop !))) (look-in ! 42 (sub ! 1 refl (whole !)))) (no-more !)))) 9 refl (tt, (tt, (record { fits = room′ .0 }, tt))) $
@@ -153,9 +153,9 @@ serpentgleam-pair-spec 𝓤 H 𝓜 𝓖 𝓡 =
     (tables 𝓤 H 𝓜 𝓡 code.env .C) (tables 𝓤 H 𝓜 𝓡 code.env .Λ) #serpentgleam·serpentgleam-pair code.function (code.unfolded 𝓤 H 𝓜 𝓡)
     (operation-meets 𝓤 H (𝓖 .A) (givenOf 𝓤 H 𝓜 𝓖) (𝓜 .mem) (𝓡 .run) (tablesOf 𝓤 H 𝓜 (tables 𝓤 H 𝓜 𝓡 code.env)) (record {
       k-next-pairs = cited 𝓤 H (NextPairs 𝓤 H (𝓖 .A) (𝓜 .mem) (𝓡 .run)) 𝓜 𝓡 code.env #instalments·next-pairs next-pairs-def.routine code.calls-instalments·next-pairs (next-pairs-thm.met 𝓤 H 𝓜 𝓖 𝓡);
-      k-lines-there = cited 𝓤 H (LinesThere 𝓤 H (𝓖 .A) (𝓜 .mem) (𝓡 .run)) 𝓜 𝓡 code.env #instalments·lines-there lines-there-def.routine code.calls-instalments·lines-there (lines-there-thm.met 𝓤 H 𝓜 𝓖 𝓡);
+      k-lines-compared = cited 𝓤 H (LinesCompared 𝓤 H (𝓖 .A) (𝓜 .mem) (𝓡 .run)) 𝓜 𝓡 code.env #instalments·lines-compared lines-compared-def.routine code.calls-instalments·lines-compared (lines-compared-thm.met 𝓤 H 𝓜 𝓖 𝓡);
       k-agree = cited 𝓤 H (Agree 𝓤 H (𝓖 .A) (𝓜 .mem) (𝓡 .run)) 𝓜 𝓡 code.env #lent·agree agree-def.routine code.calls-lent·agree (agree-thm.met 𝓤 H 𝓜 𝓖 𝓡);
-      k-lines-then = cited 𝓤 H (LinesThen 𝓤 H (𝓖 .A) (𝓜 .mem) (𝓡 .run)) 𝓜 𝓡 code.env #instalments·lines-then lines-then-def.routine code.calls-instalments·lines-then (lines-then-thm.met 𝓤 H 𝓜 𝓖 𝓡);
+      k-lines-after = cited 𝓤 H (LinesAfter 𝓤 H (𝓖 .A) (𝓜 .mem) (𝓡 .run)) 𝓜 𝓡 code.env #instalments·lines-after lines-after-def.routine code.calls-instalments·lines-after (lines-after-thm.met 𝓤 H 𝓜 𝓖 𝓡);
       k-write-entries = cited 𝓤 H (WriteEntries 𝓤 H (𝓖 .A) (𝓜 .mem) (𝓡 .run)) 𝓜 𝓡 code.env #lent·write-entries write-entries-def.routine code.calls-lent·write-entries (write-entries-thm.met 𝓤 H 𝓜 𝓖 𝓡);
       k-told = cited 𝓤 H (Told 𝓤 H (𝓖 .A) (𝓜 .mem) (𝓡 .run)) 𝓜 𝓡 code.env #serpentgleam·told told-def.routine code.calls-serpentgleam·told (told-thm.met 𝓤 H 𝓜 𝓖 𝓡);
     }))

@@ -12,10 +12,10 @@ use mathlib.Core.Path.{_∙_, _≡_, refl}
 use native.Mathlib.Omega.{arith}
 
 abbrev Inv-loop : tie.InvT-loop
-Inv-loop file l left₀ numbers₀ table tree₀ places₀ allowed k₀ total₀ allowance₀ left numbers tree places k total allowance = PairedBy k (accountOf file l) left numbers (record { count = k; total = total }) × (length left ≡ length left₀) × Standings (accountOf file l) left table tree places × (length tree ≡ length tree₀) × (length places ≡ length places₀) × (length numbers ≡ length numbers₀) × (k + allowance ≡ k₀ + allowed)
+Inv-loop file l left₀ numbers₀ table tree₀ places₀ most k₀ total₀ allowance₀ left numbers tree places k total allowance = PairedBy k (accountOf file l) left numbers (record { count = k; total = total }) × (length left ≡ length left₀) × Standings (accountOf file l) left table tree places × (length tree ≡ length tree₀) × (length places ≡ length places₀) × (length numbers ≡ length numbers₀) × (k + allowance ≡ k₀ + most)
 
 abbrev μ-loop : tie.MeasureT-loop
-μ-loop file l left₀ numbers₀ table tree₀ places₀ allowed k₀ total₀ allowance₀ left numbers tree places k total allowance = allowance
+μ-loop file l left₀ numbers₀ table tree₀ places₀ most k₀ total₀ allowance₀ left numbers tree places k total allowance = allowance
 
 loop-holds : tie.Need-loop-holds Inv-loop μ-loop
 loop-holds c = (c .before .before .before .before .before .before .pre .paired, refl, c .before .before .before .before .before .before .pre .rows .standings, refl, refl, refl, refl)
@@ -36,7 +36,7 @@ same-length-4 : tie.Need-same-length-4 Inv-loop μ-loop
 same-length-4 c = c .before .before .before .before .before .best-rank .kept .1 .1 .1 .1 .1 .0 ∙ c .before .before .before .before .before .before .before .before .before .before .loop .inv .4
 
 returns : tie.Need-returns Inv-loop μ-loop
-returns c = round-stops (now (c .before .before .before .before .before .before .before .before .before .before .before .before .before .before .before .before .before .args .file)) (c .before .before .before .before .before .before .before .before .before .before .before .before .before .before .before .before .before .args .l) (c .before .before .before .before .before .before .before .before .before .before .before .before .before .before .before .before .before .pre .rows .rests .file) (c .before .before .before .before .before .before .before .before .before .before .loop .left) (c .before .before .before .before .before .before .before .before .before .before .loop .numbers) (now (c .before .before .before .before .before .before .before .before .before .before .before .before .before .before .before .before .before .args .table)) (c .before .before .before .before .before .best-rank .last .1 .1 .1 .1 .0) (c .before .before .before .before .before .best-rank .last .1 .1 .1 .1 .1 .0) (c .before .before .before .before .before .before .before .before .before .before .loop .k) (c .before .before .before .before .before .before .before .before .before .before .loop .total) (c .before .before .before .before .before .before .before .before .before .before .loop .inv .0) (c .before .before .before .before .before .before .before .before .before .before .before .before .before .before .before .before .before .pre .rows .lines) (c .before .before .before .before .before .best-rank .result) (c .before .before .before .before .before .best-rank .ensures) (c .if1 .taken) ((c .before .before .before .before .before .before .before .before .before .before .before .before .before .before .before .before .before .args .before) .count + (c .before .before .before .before .before .before .before .before .before .before .before .before .before .before .before .before .before .args .allowed)) (omega (arith, c .before .before .before .before .before .before .before .before .before .before .loop .inv .6))
+returns c = round-stops (now (c .before .before .before .before .before .before .before .before .before .before .before .before .before .before .before .before .before .args .file)) (c .before .before .before .before .before .before .before .before .before .before .before .before .before .before .before .before .before .args .l) (c .before .before .before .before .before .before .before .before .before .before .before .before .before .before .before .before .before .pre .rows .rests .file) (c .before .before .before .before .before .before .before .before .before .before .loop .left) (c .before .before .before .before .before .before .before .before .before .before .loop .numbers) (now (c .before .before .before .before .before .before .before .before .before .before .before .before .before .before .before .before .before .args .table)) (c .before .before .before .before .before .best-rank .last .1 .1 .1 .1 .0) (c .before .before .before .before .before .best-rank .last .1 .1 .1 .1 .1 .0) (c .before .before .before .before .before .before .before .before .before .before .loop .k) (c .before .before .before .before .before .before .before .before .before .before .loop .total) (c .before .before .before .before .before .before .before .before .before .before .loop .inv .0) (c .before .before .before .before .before .before .before .before .before .before .before .before .before .before .before .before .before .pre .rows .lines) (c .before .before .before .before .before .best-rank .result) (c .before .before .before .before .before .best-rank .ensures) (c .if1 .taken) ((c .before .before .before .before .before .before .before .before .before .before .before .before .before .before .before .before .before .args .before) .count + (c .before .before .before .before .before .before .before .before .before .before .before .before .before .before .before .before .before .args .most)) (omega (arith, c .before .before .before .before .before .before .before .before .before .before .loop .inv .6))
 
 add-make-pair : tie.Need-add-make-pair Inv-loop μ-loop
 add-make-pair c = (omega (arith, c .before .before .before .before .before .before .before .best-rank .ensures .standings .leaves .places-room))
@@ -78,7 +78,7 @@ same-length-8 : tie.Need-same-length-8 Inv-loop μ-loop
 same-length-8 c = c .before .loop .inv .4
 
 returns-2 : tie.Need-returns-2 Inv-loop μ-loop
-returns-2 c = rounds-over (accountOf (now (c .before .before .before .before .before .before .before .before .args .file)) (c .before .before .before .before .before .before .before .before .args .l)) (c .before .loop .left) (c .before .loop .numbers) (now (c .before .before .before .before .before .before .before .before .args .table)) (c .before .loop .tree) (c .before .loop .places) (c .before .loop .k) (c .before .loop .total) ((c .before .before .before .before .before .before .before .before .args .before) .count + (c .before .before .before .before .before .before .before .before .args .allowed)) (c .before .loop .inv .0) (c .before .loop .inv .2) (omega (arith, c .before .loop .inv .6, c .loop-test .left))
+returns-2 c = rounds-over (accountOf (now (c .before .before .before .before .before .before .before .before .args .file)) (c .before .before .before .before .before .before .before .before .args .l)) (c .before .loop .left) (c .before .loop .numbers) (now (c .before .before .before .before .before .before .before .before .args .table)) (c .before .loop .tree) (c .before .loop .places) (c .before .loop .k) (c .before .loop .total) ((c .before .before .before .before .before .before .before .before .args .before) .count + (c .before .before .before .before .before .before .before .before .args .most)) (c .before .loop .inv .0) (c .before .loop .inv .2) (omega (arith, c .before .loop .inv .6, c .loop-test .left))
 
 pub pair-rounds-spec : {M : Type 1} → statement M
 pair-rounds-spec =
