@@ -33,6 +33,11 @@ left_in() {
     find "$1" ! -type d -o -name '*serpentgleam*'
 }
 
+# What the client prints of instalments that are refused, whatever the account.
+refused_pairs='pair: refusal 18, row 0, value 0, entries changed 0, amount 0
+pair: refusal 1, row 0, value 0, entries changed 0, amount 0'
+not_first="18: the lines in the list are not the account's first pairs"
+
 # What the client prints of factors, whatever the account.
 factors='factors 1863083 1085366, refusal 0, row 0
 factors 4102929 637796, refusal 0, row 0
@@ -96,6 +101,12 @@ total 10800, refusal 0
 amount 25000
 no list: refusal 12, row 0, lines 0, total 0
 refused 1 0: the file has fewer than 12 or more than 65,536 bytes
+pair: refusal 0, row 0, value 0, entries changed 0, amount 25300
+pair: refusal 0, row 0, value 1, entries changed 1, amount 17800
+pair: refusal 0, row 0, value 1, entries changed 1, amount 10800
+$refused_pairs
+no list: refusal 12, row 0, value 0, amount 0
+$not_first
 $factors
 $days
 total after it 11700
@@ -110,6 +121,12 @@ total 0, refusal 0
 amount -13
 no list: refusal 0, row 0, lines 0, total 0
 refused 1 0: the file has fewer than 12 or more than 65,536 bytes
+pair: refusal 0, row 0, value 0, entries changed 0, amount 0
+pair: refusal 0, row 0, value 0, entries changed 0, amount 0
+pair: refusal 0, row 0, value 0, entries changed 0, amount 0
+$refused_pairs
+no list: refusal 0, row 0, value 0, amount 0
+$not_first
 $factors
 $days
 total after it 0
@@ -122,6 +139,8 @@ cp "$top/examples/document.account" .
 "$prefix/bin/serpentgleam" margin document.account > command.out 2> command.err
 printf 'document.account\t%s\n' 'pair 0 2 3 0' 'pair 0 1 4 3000' 'left 0 3 7500' 'premium 300' 'total 10800' |
     same command.out 'the installed command'
+"$prefix/bin/serpentgleam" instalments document.account 1 > command.out
+printf 'document.account\t%s\n' 'pairs 0 25300' 'pairs 1 17800' 'pairs 2 10800' | same command.out 'the installed command'
 "$prefix/bin/serpentgleam" factors FCI 720 > command.out
 echo '1863083 1085366' | same command.out 'the installed command'
 cp "$top/examples/before_the_day.account" .

@@ -2,8 +2,9 @@
  * A small program for an installation to be tried with, as C and as C++: installed_client FILE prints the version, the
  * lines, premiums and total of the account file and its first row's amount, how many entries after the lines have kept
  * their content, and the answer where the list is NULL and has no entries; then the refusal of a file without bytes,
- * factors that are there and factors that are not, days of series row 0 that are refused and one that is done twice, how
- * many bytes each of them changed, the total after it, and what is said of the numbers 3 and 15, which no refusal has.
+ * instalments of pairs, the entries that each changed and the amount after it, factors that are there and factors that are
+ * not, days of series row 0 that are refused and one that is done twice, how many bytes each of them changed, the total
+ * after it, and what is said of the numbers 3 and 15, which no refusal has.
  */
 #include <serpentgleam.h>
 
@@ -25,6 +26,38 @@ static int kept_after(uint64_t count)
     for (i = count; i < SERPENTGLEAM_MOST_LINES; i++)
         kept += memcmp(&lines[i], &before[i], sizeof lines[i]) == 0;
     return kept;
+}
+
+/* Makes pairs after the first count and prints the answer, how many entries it changed and the amount after it. */
+static uint64_t print_pair(size_t length, uint64_t count, uint64_t allowance)
+{
+    struct serpentgleam_answer made, amount;
+
+    memcpy(before, lines, sizeof before);
+    made = serpentgleam_pair(file, length, lines, SERPENTGLEAM_MOST_LINES, count, allowance);
+    amount = serpentgleam_amount_so_far(file, length, lines, SERPENTGLEAM_MOST_LINES, count + made.value);
+    printf("pair: refusal %" PRIu64 ", row %" PRIu64 ", value %" PRIu64 ", entries changed %d, amount %" PRIu64 "\n",
+           made.refusal, made.row, made.value, SERPENTGLEAM_MOST_LINES - kept_after(0), amount.value);
+    return made.value;
+}
+
+/* Prints what instalments make of a list without lines, two that are refused, and the answer without a list. */
+static void print_all_pairs(size_t length)
+{
+    struct serpentgleam_answer made;
+    uint64_t count = 0;
+
+    memset(lines, 0xa5, sizeof lines);
+    count += print_pair(length, count, 0);
+    count += print_pair(length, count, 1);
+    count += print_pair(length, count, UINT64_MAX);
+    print_pair(length, UINT64_MAX, 1);
+    print_pair(0, count, 1);
+    made = serpentgleam_pair(file, length, NULL, 0, 0, 8);
+    printf("no list: refusal %" PRIu64 ", row %" PRIu64 ", value %" PRIu64 ", amount %" PRIu64 "\n", made.refusal, made.row,
+           made.value, serpentgleam_amount_so_far(file, length, NULL, 0, 0).value);
+    printf("%d: %s\n", SERPENTGLEAM_REFUSED_NOT_FIRST_PAIRS,
+           serpentgleam_refusal_sentence(SERPENTGLEAM_REFUSED_NOT_FIRST_PAIRS));
 }
 
 /* Prints the answer for a code and days. */
@@ -107,6 +140,7 @@ int main(int count, char **words)
     premiums = serpentgleam_premiums(NULL, 0);
     printf("refused %" PRIu64 " %" PRIu64 ": %s\n", premiums.refusal, premiums.row,
            serpentgleam_refusal_sentence(premiums.refusal));
+    print_all_pairs(length);
     print_all_factors();
     print_all_days(length);
     printf("3: %s\n", serpentgleam_refusal_sentence(3));

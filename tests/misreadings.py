@@ -7,10 +7,12 @@ copy margins the reference's vectors (the accounts in crates/margin_batch/stdin)
 not that of crates/margin_batch/stdout. With a misreading of the amount for one position it prints those of the files in
 crates/position_amounts/stdin; a file notices where its amounts are not those of crates/position_amounts/stdout. With a
 misreading of the day it brings the files of crates/day_batch/stdin up to date; a case notices where its answer or the
-bytes after it are not those of crates/day_batch/stdout. With a misreading of the factors it prints the list of all
-factors; a line notices where it is not that of crates/factors_list/stdout.
+bytes after it are not those of crates/day_batch/stdout. With a misreading of instalments it makes the calls in
+tests/instalments/cases; a case notices where an answer or a list after it is not that of tests/instalments/answers.
+With a misreading of the factors it prints the list of all factors; a line notices where it is not that of
+crates/factors_list/stdout.
 
-Needs cargo. Prints four tables in markdown, each with a summary. Exit status 1 where a misreading is noticed by no
+Needs cargo. Prints five tables in markdown, each with a summary. Exit status 1 where a misreading is noticed by no
 account, by no file, by no case, or by no line.
 """
 import os
@@ -23,6 +25,7 @@ import misread_amounts
 import misread_days
 import misread_factors
 import misread_file
+import misread_instalments
 import misread_knocked_out
 import misread_limiters
 import misread_no_positions
@@ -38,8 +41,8 @@ from account_batch import amounts_of, answers_of, files_of, framed, vector_bytes
 # What notices, a program of the reference, its input, its output as a list of what can notice, and the misreadings.
 Noticing = namedtuple('Noticing', 'what program given parts_of expected tables')
 
-MODULES = ['account', 'day', 'factors', 'factors_list', 'lines', 'output', 'pairing', 'position', 'position_row',
-           'reader', 'spread']
+MODULES = ['account', 'day', 'factors', 'factors_list', 'instalment_cases', 'instalments', 'lines', 'output', 'pairing',
+           'position', 'position_row', 'reader', 'spread']
 TABLES = [misread_positions, misread_spreads, misread_limiters, misread_pairs, misread_file, misread_no_positions,
           misread_knocked_out, misread_reais, misread_order]
 DAY_BYTES = 32
@@ -73,6 +76,15 @@ def by_cases_of_days():
         return found
 
     return Noticing('case', 'day_reference_batch', given, answers, expected, [misread_days])
+
+
+def by_cases_of_instalments():
+    def stored(name):
+        with open(path('tests', 'instalments', name), 'rb') as file:
+            return file.read()
+
+    given, expected = stored('cases'), stored('answers')
+    return Noticing('case', 'instalments_reference_batch', given, answers_of, expected, [misread_instalments])
 
 
 def by_lines_of_factors():
@@ -142,7 +154,8 @@ def print_table(noticing):
 
 def main():
     noticed = []
-    for noticing in (by_accounts(), by_files_of_amounts(), by_cases_of_days(), by_lines_of_factors()):
+    for noticing in (by_accounts(), by_files_of_amounts(), by_cases_of_days(), by_cases_of_instalments(),
+                     by_lines_of_factors()):
         if noticed:
             print()
         noticed.append(print_table(noticing))

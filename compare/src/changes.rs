@@ -4,6 +4,7 @@ use reference::day::Day;
 
 use crate::changed_amounts::{change_amount, change_lines, up_to_real};
 use crate::changed_days::{change_answer, change_applied, change_refused, day_asked, write_beside};
+use crate::changed_instalments;
 use crate::implementation::{Answer, Factors, Implementation, Line, Margin};
 
 #[derive(Clone, Copy, Debug, PartialEq, Eq)]
@@ -57,11 +58,42 @@ pub enum Change {
     DaySeriesCut,
     DayPricesCut,
     DayBeside,
+    PairAll,
+    PairOneMore,
+    PairOneAtMost,
+    PairZeroMakesOne,
+    PairAllowanceCut,
+    PairCountCut,
+    PairEntryAfter,
+    PairFromZero,
+    PairBackwards,
+    PairBesideList,
+    PairLeftLines,
+    PairValueSoFar,
+    PairValueAllowed,
+    PairOnRefusal,
+    LinesNotLookedAt,
+    FirstLineOnly,
+    LastLineOnly,
+    LineKindIgnored,
+    LineAmountIgnored,
+    LeftLineCounted,
+    LinesBeforeList,
+    LinesBeforeReading,
+    LinesRefusalRow,
+    LinesRefusalValue,
+    LinesRefusalNumber,
+    SoFarWithoutPremiums,
+    SoFarPairsAlone,
+    SoFarLeftAlone,
+    SoFarTotal,
+    SoFarOnePairLess,
+    SoFarWritesList,
     FileWritten,
     ReadingOutside,
 }
 
-pub const CHANGES: [(&str, Change); 51] = [
+pub const CHANGES: [(&str, Change); 82] = [
     ("total", Change::Total),
     ("line-count", Change::LineCount),
     ("line-amount", Change::LineAmount),
@@ -111,6 +143,37 @@ pub const CHANGES: [(&str, Change); 51] = [
     ("day-series-cut", Change::DaySeriesCut),
     ("day-prices-cut", Change::DayPricesCut),
     ("day-beside", Change::DayBeside),
+    ("pair-all", Change::PairAll),
+    ("pair-one-more", Change::PairOneMore),
+    ("pair-one-at-most", Change::PairOneAtMost),
+    ("pair-zero-makes-one", Change::PairZeroMakesOne),
+    ("pair-allowance-cut", Change::PairAllowanceCut),
+    ("pair-count-cut", Change::PairCountCut),
+    ("pair-entry-after", Change::PairEntryAfter),
+    ("pair-from-zero", Change::PairFromZero),
+    ("pair-backwards", Change::PairBackwards),
+    ("pair-beside-list", Change::PairBesideList),
+    ("pair-left-lines", Change::PairLeftLines),
+    ("pair-value-so-far", Change::PairValueSoFar),
+    ("pair-value-allowed", Change::PairValueAllowed),
+    ("pair-on-refusal", Change::PairOnRefusal),
+    ("lines-not-looked-at", Change::LinesNotLookedAt),
+    ("first-line-only", Change::FirstLineOnly),
+    ("last-line-only", Change::LastLineOnly),
+    ("line-kind-ignored", Change::LineKindIgnored),
+    ("line-amount-ignored", Change::LineAmountIgnored),
+    ("left-line-counted", Change::LeftLineCounted),
+    ("lines-before-list", Change::LinesBeforeList),
+    ("lines-before-reading", Change::LinesBeforeReading),
+    ("lines-refusal-row", Change::LinesRefusalRow),
+    ("lines-refusal-value", Change::LinesRefusalValue),
+    ("lines-refusal-number", Change::LinesRefusalNumber),
+    ("so-far-without-premiums", Change::SoFarWithoutPremiums),
+    ("so-far-pairs-alone", Change::SoFarPairsAlone),
+    ("so-far-left-alone", Change::SoFarLeftAlone),
+    ("so-far-total", Change::SoFarTotal),
+    ("so-far-one-pair-less", Change::SoFarOnePairLess),
+    ("so-far-writes-list", Change::SoFarWritesList),
     ("file-written", Change::FileWritten),
     ("reading-outside", Change::ReadingOutside),
 ];
@@ -197,6 +260,25 @@ impl Implementation for Changed<'_> {
             write_beside(file);
         }
         change_answer(self.change, day, answer)
+    }
+
+    fn pair(
+        &self,
+        file: &[u8],
+        entries: &mut [Line],
+        room: usize,
+        count: u64,
+        allowance: u64,
+    ) -> Answer {
+        touch(file, self.change);
+        let numbers = (room, count, allowance);
+        changed_instalments::pair(self.change, self.of, file, entries, numbers)
+    }
+
+    fn amount_so_far(&self, file: &[u8], entries: &mut [Line], room: usize, count: u64) -> Answer {
+        touch(file, self.change);
+        let numbers = (room, count);
+        changed_instalments::amount_so_far(self.change, self.of, file, entries, numbers)
     }
 }
 

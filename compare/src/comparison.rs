@@ -3,12 +3,14 @@
 use std::fmt;
 
 use reference::day::Day;
+use reference::instalment_cases::Call;
 use reference::reader::{distance, read_account, TRAILER_BYTES};
 
 use crate::codes_and_days::expectation;
 use crate::days::days;
 use crate::files::File;
 use crate::implementation::{self, Factors, Implementation, Line, Margin};
+use crate::instalments::{compare_instalments, List, BESIDE};
 use crate::lending::{Lending, Place};
 use crate::questions::{questions, Question};
 use crate::summary::Summary;
@@ -25,13 +27,31 @@ pub enum Answer {
     Factors(Factors),
     /// With the file's bytes after it.
     Day(implementation::Answer, Vec<u8>),
+    /// With the whole list as it was left, and the entries beside it.
+    Pair(implementation::Answer, Vec<Line>),
+    SoFar(implementation::Answer, Vec<Line>),
 }
 
 #[derive(Clone, Debug, PartialEq, Eq)]
 pub enum Difference {
-    Answers { question: Question, reference: Answer, library: Answer },
-    FileWrittenTo { question: Question },
-    WrittenBeside { question: Question },
+    Answers {
+        question: Question,
+        reference: Answer,
+        library: Answer,
+    },
+    /// With what the list held before the call.
+    OnList {
+        list: Vec<Line>,
+        question: Question,
+        reference: Answer,
+        library: Answer,
+    },
+    FileWrittenTo {
+        question: Question,
+    },
+    WrittenBeside {
+        question: Question,
+    },
 }
 
 /// Stops at the first difference. What was compared is added to the summary.
@@ -59,6 +79,10 @@ pub fn compare_file(
         }
         summary.add_answer(&expected, purpose);
     }
+    let bytes = &file.bytes;
+    let mut asking = Asking { bytes, copies, turn, reference, library, summary: &mut *summary };
+    compare_instalments(&mut asking, file.seed_of_questions, position_count.ok())?;
+    turn = asking.turn;
     for day in days(file.seed_of_questions, reading.ok().as_ref()) {
         turn += 1;
         let place = [Place::BehindForbidden, Place::BeforeForbidden][turn % 2];
@@ -66,6 +90,75 @@ pub fn compare_file(
     }
     summary.add_file(file, position_count);
     Ok(())
+}
+
+/// A file that both are asked about, and the copies of it that the library gets by turns.
+pub struct Asking<'a> {
+    bytes: &'a [u8],
+    copies: [&'a [u8]; 2],
+    turn: usize,
+    reference: &'a dyn Implementation,
+    library: &'a dyn Implementation,
+    summary: &'a mut Summary,
+}
+
+impl Asking<'_> {
+    /// Both answers to a call for instalments on the same list, which is left as the call leaves it.
+    pub fn ask(
+        &mut self,
+        list: &mut List,
+        call: Call,
+    ) -> Result<implementation::Answer, Box<Difference>> {
+        self.turn += 1;
+        let copy = self.copies[self.turn % 2];
+        let question = Question::Instalment { room: list.room, call };
+        let mut before = list.clone();
+        let (answer, expected) = call_answer(self.reference, self.bytes, list, call);
+        let library = call_answer(self.library, copy, &mut before.clone(), call).1;
+        if library != expected {
+            let (list, reference) = (before.lines().to_vec(), expected);
+            return Err(Box::new(Difference::OnList { list, question, reference, library }));
+        }
+        if copy != self.bytes {
+            return Err(Box::new(Difference::FileWrittenTo { question }));
+        }
+        self.summary.add_answer(&expected, call_outcome(call, &answer));
+        Ok(answer)
+    }
+}
+
+fn call_answer(
+    implementation: &dyn Implementation,
+    file: &[u8],
+    list: &mut List,
+    call: Call,
+) -> (implementation::Answer, Answer) {
+    let (entries, room) = (&mut list.entries[BESIDE..], list.room);
+    match call {
+        Call::Pair { count, allowance } => {
+            let answer = implementation.pair(file, entries, room, count, allowance);
+            (answer, Answer::Pair(answer, list.entries.clone()))
+        }
+        Call::Amount { count } => {
+            let answer = implementation.amount_so_far(file, entries, room, count);
+            (answer, Answer::SoFar(answer, list.entries.clone()))
+        }
+    }
+}
+
+/// What came of a call for instalments.
+fn call_outcome(call: Call, answer: &implementation::Answer) -> &'static str {
+    match (answer.refusal, call) {
+        (0, Call::Pair { allowance: 0, .. }) => "allowance 0",
+        (0, Call::Pair { allowance, .. }) if answer.value == allowance => "as many as allowed",
+        (0, Call::Pair { .. }) if answer.value > 0 => "fewer than allowed",
+        (0, Call::Pair { .. }) => "none left to make",
+        (0, Call::Amount { count: 0 }) => "no pair",
+        (0, Call::Amount { .. }) => "some pairs",
+        (12, _) => "list too short",
+        (18, _) => "not the first pairs",
+        _ => "refused file",
+    }
 }
 
 /// The same for a day. The library applies it twice, which is to alter nothing more.
@@ -147,6 +240,9 @@ fn answer(implementation: &dyn Implementation, file: &[u8], question: Question) 
             let mut bytes = file.to_vec();
             Answer::Day(implementation.day(&mut bytes, &day), bytes)
         }
+        Question::Instalment { room, call } => {
+            call_answer(implementation, file, &mut List::marked(room), call).1
+        }
     }
 }
 
@@ -166,13 +262,26 @@ impl fmt::Display for Difference {
                 write!(out, "asked: {question:?}\nbytes beside the file were written to")
             }
             Difference::Answers { question, reference, library } => {
-                writeln!(out, "asked: {question:?}")?;
-                writeln!(out, "reference: {}", first_part(reference))?;
-                write!(out, "library: {}", first_part(library))?;
-                write_other_entry(out, reference, library)
+                write_both(out, question, reference, library)
+            }
+            Difference::OnList { list, question, reference, library } => {
+                writeln!(out, "the list: {list:?}")?;
+                write_both(out, question, reference, library)
             }
         }
     }
+}
+
+fn write_both(
+    out: &mut fmt::Formatter,
+    question: &Question,
+    reference: &Answer,
+    library: &Answer,
+) -> fmt::Result {
+    writeln!(out, "asked: {question:?}")?;
+    writeln!(out, "reference: {}", first_part(reference))?;
+    write!(out, "library: {}", first_part(library))?;
+    write_other_entry(out, reference, library)
 }
 
 fn first_part(answer: &Answer) -> String {
@@ -182,13 +291,16 @@ fn first_part(answer: &Answer) -> String {
         Answer::Premiums(premiums) => format!("{premiums:?}"),
         Answer::Factors(factors) => format!("{factors:?}"),
         Answer::Day(answer, _) => format!("{answer:?}"),
+        Answer::Pair(answer, _) | Answer::SoFar(answer, _) => format!("{answer:?}"),
     }
 }
 
 /// The first entry of the list, or byte of the file, that differs, if there is one.
 fn write_other_entry(out: &mut fmt::Formatter, one: &Answer, other: &Answer) -> fmt::Result {
     match (one, other) {
-        (Answer::Margin(_, expected), Answer::Margin(_, found)) => {
+        (Answer::Margin(_, expected), Answer::Margin(_, found))
+        | (Answer::Pair(_, expected), Answer::Pair(_, found))
+        | (Answer::SoFar(_, expected), Answer::SoFar(_, found)) => {
             write_first_other(out, "entry", expected, found)
         }
         (Answer::Day(_, expected), Answer::Day(_, found)) => {

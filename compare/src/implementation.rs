@@ -3,8 +3,10 @@
 pub use library::{Answer, Factors, Line, Margin};
 use reference::day::{apply_day, Day};
 use reference::factors::factors;
+use reference::instalments::{amount_so_far, pair_into};
 use reference::lines::{margin_into, premiums};
 use reference::position::one_position;
+use reference::reader::Refusal;
 
 pub trait Implementation {
     /// The caller's list is the first `room` entries; those after it are not handed over.
@@ -18,6 +20,19 @@ pub trait Implementation {
 
     /// The file is left as it is after the day.
     fn day(&self, file: &mut [u8], day: &Day) -> Answer;
+
+    /// The caller's list is the first `room` entries here too.
+    fn pair(
+        &self,
+        file: &[u8],
+        entries: &mut [Line],
+        room: usize,
+        count: u64,
+        allowance: u64,
+    ) -> Answer;
+
+    /// The entries are to stay as they are.
+    fn amount_so_far(&self, file: &[u8], entries: &mut [Line], room: usize, count: u64) -> Answer;
 }
 
 pub struct Reference;
@@ -42,12 +57,7 @@ impl Implementation for Reference {
     }
 
     fn premiums(&self, file: &[u8]) -> Answer {
-        match premiums(file) {
-            Ok(value) => Answer { refusal: 0, row: 0, value: value as u64 },
-            Err(refusal) => {
-                Answer { refusal: refusal.number as u64, row: refusal.row as u64, value: 0 }
-            }
-        }
+        number_or_refusal(premiums(file).map(|value| value as u64))
     }
 
     fn factors(&self, code: u64, days: u64) -> Factors {
@@ -60,11 +70,30 @@ impl Implementation for Reference {
     }
 
     fn day(&self, file: &mut [u8], day: &Day) -> Answer {
-        match apply_day(file, day) {
-            Ok(()) => Answer { refusal: 0, row: 0, value: 0 },
-            Err(refusal) => {
-                Answer { refusal: refusal.number as u64, row: refusal.row as u64, value: 0 }
-            }
+        number_or_refusal(apply_day(file, day).map(|()| 0))
+    }
+
+    fn pair(
+        &self,
+        file: &[u8],
+        entries: &mut [Line],
+        room: usize,
+        count: u64,
+        allowance: u64,
+    ) -> Answer {
+        number_or_refusal(pair_into(file, &mut entries[..room], count, allowance))
+    }
+
+    fn amount_so_far(&self, file: &[u8], entries: &mut [Line], room: usize, count: u64) -> Answer {
+        number_or_refusal(amount_so_far(file, &entries[..room], count).map(|value| value as u64))
+    }
+}
+
+fn number_or_refusal(answer: Result<u64, Refusal>) -> Answer {
+    match answer {
+        Ok(value) => Answer { refusal: 0, row: 0, value },
+        Err(Refusal { number, row }) => {
+            Answer { refusal: number as u64, row: row as u64, value: 0 }
         }
     }
 }

@@ -26,4 +26,19 @@ impl Implementation for Library {
         let Day { series, high, low, close } = *day;
         library::day(file, series, high, low, close)
     }
+
+    fn pair(
+        &self,
+        file: &[u8],
+        entries: &mut [Line],
+        room: usize,
+        count: u64,
+        allowance: u64,
+    ) -> Answer {
+        library::pair(file, &mut entries[..room], count, allowance)
+    }
+
+    fn amount_so_far(&self, file: &[u8], entries: &mut [Line], room: usize, count: u64) -> Answer {
+        library::amount_so_far(file, &entries[..room], count)
+    }
 }

@@ -1,6 +1,7 @@
 //! What is asked: about a file, or for the factors.
 
 use reference::day::Day;
+use reference::instalment_cases::Call;
 use reference::random::Random;
 
 #[derive(Clone, Copy, Debug, PartialEq, Eq)]
@@ -17,6 +18,8 @@ pub enum Question {
     Day(Day),
     /// The file after the same day once more.
     SameDay(Day),
+    /// Pairs in instalments or the amount so far, with a list of so many entries.
+    Instalment { room: usize, call: Call },
 }
 
 /// A question, and what it is asked for.

@@ -29,6 +29,9 @@ pub struct Summary {
     premium_calls: u64,
     factors_calls: Tally,
     day_calls: Tally,
+    pair_calls: Tally,
+    pairs: u64,
+    so_far_calls: Tally,
     lines: u64,
     entries_kept: u64,
 }
@@ -70,6 +73,11 @@ impl Summary {
             Answer::Premiums(_) => self.premium_calls += 1,
             Answer::Factors(_) => self.factors_calls.add(purpose),
             Answer::Day(..) => self.day_calls.add(purpose),
+            Answer::Pair(answer, _) => {
+                self.pair_calls.add(purpose);
+                self.pairs += answer.value;
+            }
+            Answer::SoFar(..) => self.so_far_calls.add(purpose),
             Answer::Margin(margin, entries) => {
                 self.margin_calls.add(purpose);
                 self.lines += margin.lines;
@@ -115,6 +123,10 @@ impl fmt::Display for Summary {
         writeln!(out, "serpentgleam_factors: {calls} calls: {}", self.factors_calls)?;
         let calls = self.day_calls.total();
         writeln!(out, "serpentgleam_day: {calls} calls: {}", self.day_calls)?;
+        let (calls, pairs) = (self.pair_calls.total(), self.pairs);
+        writeln!(out, "serpentgleam_pair: {calls} calls, {pairs} pairs: {}", self.pair_calls)?;
+        let calls = self.so_far_calls.total();
+        writeln!(out, "serpentgleam_amount_so_far: {calls} calls: {}", self.so_far_calls)?;
         write!(out, "{} files, 0 differences", self.files)
     }
 }

@@ -48,6 +48,21 @@ extern "C" {
         low: u64,
         close: u64,
     ) -> Answer;
+    fn serpentgleam_pair(
+        file: *const u8,
+        length: usize,
+        lines: *mut Line,
+        room: usize,
+        count: u64,
+        allowance: u64,
+    ) -> Answer;
+    fn serpentgleam_amount_so_far(
+        file: *const u8,
+        length: usize,
+        lines: *const Line,
+        room: usize,
+        count: u64,
+    ) -> Answer;
 }
 
 type MarginEntry = unsafe extern "C" fn(*const u8, usize, *mut Line, usize) -> Margin;
@@ -85,6 +100,22 @@ pub fn day(file: &mut [u8], series: u64, high: u64, low: u64, close: u64) -> Ans
     let start = if file.is_empty() { null_mut() } else { file.as_mut_ptr() };
     // SAFETY: the file is as long as is said.
     unsafe { serpentgleam_day(start, file.len(), series, high, low, close) }
+}
+
+/// Makes at most so many pairs more after the first `count` lines of the list, and writes them behind those.
+#[inline]
+pub fn pair(file: &[u8], list: &mut [Line], count: u64, allowance: u64) -> Answer {
+    let lines = if list.is_empty() { null_mut() } else { list.as_mut_ptr() };
+    // SAFETY: the file and the list are as long as is said, and do not overlap.
+    unsafe { serpentgleam_pair(start_of(file), file.len(), lines, list.len(), count, allowance) }
+}
+
+/// The account's amount after the first `count` lines of the list.
+#[inline]
+pub fn amount_so_far(file: &[u8], list: &[Line], count: u64) -> Answer {
+    let lines = if list.is_empty() { null() } else { list.as_ptr() };
+    // SAFETY: the file and the list are as long as is said.
+    unsafe { serpentgleam_amount_so_far(start_of(file), file.len(), lines, list.len(), count) }
 }
 
 /// Entries of an earlier archive, by the names that bench/against gives them. They are declared as today's are, so an archive

@@ -17,16 +17,22 @@
 //! 9. [`factors`]: fa and fb from the code and the days
 //! 10. [`factors_list`]: what the factors program prints
 //! 11. [`day`]: a file brought up to date after the close
+//! 12. [`instalments`]: the pairs made a few at a time, and the amount between
+//! 13. [`instalment_cases`]: calls one after the other on one list, and what is
+//!     printed for them
 //!
 //! Then the tools: [`random`] (numbers from a seed), [`draft`] (files from
 //! fields), [`sample`] (random accounts), [`brute_force`] (checks the four
 //! points of the document's section on paths), [`vectors`] (test files with
-//! their expected output) and [`day_vectors`] (the same for days).
+//! their expected output), [`day_vectors`] and [`instalment_vectors`] (the same
+//! for days and for instalments).
 
 pub mod account;
 pub mod day;
 pub mod factors;
 pub mod factors_list;
+pub mod instalment_cases;
+pub mod instalments;
 pub mod lines;
 pub mod output;
 pub mod pairing;
@@ -39,6 +45,7 @@ pub mod spread;
 pub mod brute_force;
 pub mod day_vectors;
 pub mod draft;
+pub mod instalment_vectors;
 pub mod random;
 pub mod sample;
 pub mod vectors;

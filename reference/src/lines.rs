@@ -37,7 +37,12 @@ pub fn margin(account: &Account) -> Margin {
 pub fn margin_by(account: &Account, pairing: Pairing) -> Margin {
     let mut contracts_left = contracts(account);
     let pairs = pairing(account, &mut contracts_left);
-    let left = rows_left(account, &contracts_left);
+    margin_with(account, pairs, &contracts_left)
+}
+
+/// Rows left, premium and total with these pairs made.
+pub fn margin_with(account: &Account, pairs: Vec<Pair>, contracts_left: &[i64]) -> Margin {
+    let left = rows_left(account, contracts_left);
     let premium = (0..account.positions.len()).map(|row| premium_amount(account, row)).sum();
     let pair_amounts: i64 = pairs.iter().map(|p| p.amount).sum();
     let left_amounts: i64 = left.iter().map(|l| l.amount).sum();
@@ -92,6 +97,10 @@ pub fn premiums(bytes: &[u8]) -> Result<i64, Refusal> {
 /// fields; the fifth number of a row left is 0.
 pub type Entry = [u64; 5];
 
+pub fn pair_entry(p: &Pair) -> Entry {
+    [1, p.written as u64, p.held as u64, p.quantity as u64, p.amount as u64]
+}
+
 /// Line count and total, with the lines written to the caller's list. Entries
 /// after the line count stay, and on a refusal the whole list stays. The file
 /// comes first; a list with fewer than p entries is refusal 12.
@@ -110,10 +119,7 @@ pub fn margin_into_by(
         return Err(Refusal { number: 12, row: 0 });
     }
     let answer = margin_by(&account, pairing);
-    let pairs = answer
-        .pairs
-        .iter()
-        .map(|p| [1, p.written as u64, p.held as u64, p.quantity as u64, p.amount as u64]);
+    let pairs = answer.pairs.iter().map(pair_entry);
     let left = answer.left.iter().map(|l| [2, l.row as u64, l.quantity as u64, l.amount as u64, 0]);
     let mut count = 0;
     for (entry, line) in list.iter_mut().zip(pairs.chain(left)) {

@@ -28,7 +28,7 @@ fn random_small_accounts() {
         fb_above_one: true,
     };
     let mut random = Random::new(7);
-    let (mut limited, mut knocked_out) = (0, 0);
+    let (mut limited, mut knocked_out, mut half_paired) = (0, 0, 0);
     for number in 0..1_200 {
         let mut draft = sample_account(&mut random, &shape);
         if number >= 400 {
@@ -44,7 +44,9 @@ fn random_small_accounts() {
         }
         limited += limited_pairs(&account, &claim.margin);
         knocked_out += account.positions.iter().filter(|p| p.already_knocked_out).count();
+        half_paired += claim.half_paired.iter().filter(|half| !half.pairs.is_empty()).count();
     }
+    assert!(half_paired > 50, "{half_paired} half-paired");
     assert!(limited > 50, "{limited} limited pairs");
     assert!(knocked_out > 200, "{knocked_out} rows knocked out");
 }
@@ -95,6 +97,33 @@ fn no_pair_at_all_is_found() {
 #[test]
 fn lost_contracts_are_found() {
     assert!(found(|claim| claim.margin.left.clear()).starts_with("contracts"));
+}
+
+/// The example after no pair and after one. At 3600 its written row pays 25,000
+/// centavos, and the held row of the first pair brings in 9,000.
+#[test]
+fn half_paired_accounts_that_are_not_covered_are_found() {
+    let account = example_account();
+    let right = reference_claim(&account);
+    for (pairs, amount, worst) in [(0, 25_300, 25_000), (1, 17_800, 16_000)] {
+        assert_eq!(right.half_paired[pairs].total, amount);
+        let mut claim = right.clone();
+        claim.half_paired[pairs].total = worst;
+        assert!(check(&account, &claim, 4).is_ok());
+        for total in [worst - 1, 0] {
+            claim.half_paired[pairs].total = total;
+            let words = format!("the cover: total {total} centavos with {pairs} pairs");
+            assert!(check(&account, &claim, 4).unwrap_err().starts_with(&words));
+        }
+    }
+    assert_eq!(right.half_paired.len(), 2);
+}
+
+#[test]
+fn lost_contracts_of_half_paired_accounts_are_found() {
+    assert!(found(|claim| claim.half_paired[0].left.clear()).starts_with("contracts"));
+    assert!(found(|claim| claim.half_paired[1].left.clear()).starts_with("contracts"));
+    assert!(found(|claim| claim.half_paired[1].pairs.clear()).starts_with("contracts"));
 }
 
 /// Checks a pair of one strike, 3000, and these limiters, claimed to need no

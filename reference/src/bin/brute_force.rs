@@ -32,6 +32,8 @@ const EMPTY: Shape = Shape { series: (1, 32), positions: (0, 0), ..WIDE };
 #[derive(Default)]
 struct Tried {
     pairs: usize,
+    /// Accounts with some pairs made and others not, each number of them.
+    half_paired: usize,
     limited_pairs: usize,
     /// Rows with flag 16.
     knocked_out: usize,
@@ -49,10 +51,11 @@ fn main() -> ExitCode {
         return ExitCode::from(2);
     };
     match try_accounts(count, seed) {
-        Ok(Tried { pairs, limited_pairs, knocked_out, steps }) => {
+        Ok(Tried { pairs, half_paired, limited_pairs, knocked_out, steps }) => {
             println!(
-                "seed {seed}: {count} accounts, {pairs} pairs, {limited_pairs} limited, \
-                 {knocked_out} rows knocked out, {steps} path steps, no violation"
+                "seed {seed}: {count} accounts, {half_paired} half-paired, {pairs} pairs, \
+                 {limited_pairs} limited, {knocked_out} rows knocked out, {steps} path steps, \
+                 no violation"
             );
             ExitCode::SUCCESS
         }
@@ -73,6 +76,7 @@ fn try_accounts(count: u64, seed: u64) -> Result<Tried, String> {
         all.steps += check(&account, &claim, LONGEST_PATH)
             .map_err(|words| format!("account {tried}: {words}\n{account:#?}\n{claim:#?}"))?;
         all.pairs += claim.margin.pairs.len();
+        all.half_paired += claim.half_paired.iter().filter(|half| !half.pairs.is_empty()).count();
         all.limited_pairs += limited_pairs(&account, &claim.margin);
         all.knocked_out += account.positions.iter().filter(|p| p.already_knocked_out).count();
     }

@@ -1,10 +1,12 @@
-//! Checks the four points of the document's section on paths by trying paths.
+//! Checks the four points of the document's section on paths by trying paths,
+//! and that a half-paired account is covered too (document 02 [7]).
 
 mod prices;
 mod series_paths;
 
 use crate::account::{Account, Limiter, Side, Terms, MILLION};
-use crate::lines::{margin, Margin};
+use crate::instalments::HalfPaired;
+use crate::lines::{margin, margin_with, Margin};
 use crate::pairing::allowed_spread;
 use crate::position::written_unit_margin;
 use series_paths::worst_paths;
@@ -15,6 +17,16 @@ pub struct Claim {
     /// Unit margin of every written row, in fine units; 0 for held rows.
     pub units: Vec<i64>,
     pub margin: Margin,
+    /// The account's amount before all pairs are made, as a total: the lines
+    /// after each number of pairs below all of them, from none on.
+    pub half_paired: Vec<Margin>,
+}
+
+impl Claim {
+    /// After each number of pairs; the last one is the whole margin.
+    fn after_each_pair(&self) -> Vec<&Margin> {
+        self.half_paired.iter().chain([&self.margin]).collect()
+    }
 }
 
 /// The answer this package gives.
@@ -28,7 +40,21 @@ pub fn reference_claim(account: &Account) -> Claim {
             Side::Written => written_unit_margin(account.series_of(row), &position.terms()),
         })
         .collect();
-    Claim { units, margin: margin(account) }
+    Claim { units, margin: margin(account), half_paired: half_paired(account) }
+}
+
+/// The account after each number of pairs below all of them, made one by one.
+fn half_paired(account: &Account) -> Vec<Margin> {
+    let mut half = HalfPaired::begun(account.clone());
+    let mut all = Vec::new();
+    loop {
+        let so_far = margin_with(account, half.pairs.clone(), &half.contracts_left);
+        let total = half.amount();
+        if half.make(1) == 0 {
+            return all;
+        }
+        all.push(Margin { total, ..so_far });
+    }
 }
 
 /// Pairs of different options of which one or both have a limiter.
@@ -42,10 +68,12 @@ pub fn limited_pairs(account: &Account, margin: &Margin) -> usize {
         .count()
 }
 
-/// All four points. Gives the number of path steps tried, or the first
-/// violation in words.
+/// All four points, the contracts and the cover after each number of pairs.
+/// Gives the number of path steps tried, or the first violation in words.
 pub fn check(account: &Account, claim: &Claim, longest_path: usize) -> Result<u64, String> {
-    check_contracts(account, &claim.margin)?;
+    for margin in claim.after_each_pair() {
+        check_contracts(account, margin)?;
+    }
     check_no_pair_left_unmade(account, &claim.margin)?;
     // The cover and the least amount are promised only where every fb is at
     // most 1,000,000.
@@ -101,17 +129,24 @@ fn check_cover_and_least_amount(
     longest_path: usize,
 ) -> Result<u64, String> {
     let mut steps = 0;
-    let mut worst_of_account = 0;
+    let margins = claim.after_each_pair();
+    let mut worst_of_account = vec![0; margins.len()];
     for number in 0..account.series.len() {
         let (tried, worst) = worst_paths(account, claim, number, longest_path)?;
         steps += tried;
-        worst_of_account += worst;
+        for (of_account, of_series) in worst_of_account.iter_mut().zip(worst) {
+            *of_account += of_series;
+        }
     }
-    if i128::from(claim.margin.total) * i128::from(MILLION) < worst_of_account {
-        return Err(format!(
-            "the cover: total {} centavos, the worst paths take {} millionths of a centavo",
-            claim.margin.total, worst_of_account
-        ));
+    for (margin, worst) in margins.into_iter().zip(worst_of_account) {
+        if i128::from(margin.total) * i128::from(MILLION) < worst {
+            return Err(format!(
+                "the cover: total {} centavos with {} pairs, the worst paths take {worst} \
+                 millionths of a centavo",
+                margin.total,
+                margin.pairs.len()
+            ));
+        }
     }
     Ok(steps)
 }

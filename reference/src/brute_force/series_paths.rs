@@ -5,6 +5,7 @@ use std::cmp::max;
 use super::prices::{prices_of_interest, walk};
 use super::Claim;
 use crate::account::{Account, Series, Side};
+use crate::lines::Margin;
 use crate::paths::payment;
 use crate::spread::unit_spread_margin;
 
@@ -17,21 +18,23 @@ struct Watch<'a> {
     written: Vec<usize>,
     held: Vec<usize>,
     steps: u64,
-    /// What written rows pay out less what pairs bring in, at worst.
-    worst: Option<i128>,
+    /// After each number of pairs, and what written rows then pay out less what
+    /// the pairs bring in, at worst.
+    margins: Vec<&'a Margin>,
+    worst: Option<Vec<i128>>,
     /// Of each row of the account.
     largest_payment: Vec<i64>,
     violation: Option<String>,
 }
 
-/// Path steps tried, and what the series takes at worst, in millionths of a
-/// centavo; or the first violation.
+/// Path steps tried, and what the series takes at worst after each number of
+/// pairs, in millionths of a centavo; or the first violation.
 pub fn worst_paths(
     account: &Account,
     claim: &Claim,
     number: usize,
     longest_path: usize,
-) -> Result<(u64, i128), String> {
+) -> Result<(u64, Vec<i128>), String> {
     let mut watch = Watch::new(account, claim, number);
     let prices = prices_of_interest(account, number);
     let series = watch.series;
@@ -39,7 +42,7 @@ pub fn worst_paths(
     if let Some(words) = watch.violation.take() {
         return Err(words);
     }
-    let Some(worst) = watch.worst else {
+    let Some(worst) = watch.worst.take() else {
         return Err(format!("series {number} has no path"));
     };
     watch.check_least_amount()?;
@@ -62,6 +65,7 @@ impl<'a> Watch<'a> {
             written: rows_of(Side::Written),
             held: rows_of(Side::Held),
             steps: 0,
+            margins: claim.after_each_pair(),
             worst: None,
             largest_payment: vec![0; account.positions.len()],
             violation: None,
@@ -79,20 +83,23 @@ impl<'a> Watch<'a> {
             pays[row] = payment(self.series.option_type, &terms, path);
             self.largest_payment[row] = max(self.largest_payment[row], pays[row]);
         }
-        let out = self.paid_out(&pays);
-        self.worst = Some(self.worst.map_or(out, |worst| max(worst, out)));
+        let out: Vec<i128> = self.margins.iter().map(|m| self.paid_out(m, &pays)).collect();
+        self.worst = Some(match self.worst.take() {
+            None => out,
+            Some(worst) => worst.into_iter().zip(out).map(|(w, out)| max(w, out)).collect(),
+        });
         self.violation = self.units_cover(&pays, path).and(self.spreads_cover(&pays, path)).err();
     }
 
-    /// What written rows pay out less what pairs bring in.
-    fn paid_out(&self, pays: &[i64]) -> i128 {
+    /// What written rows pay out less what the pairs of a margin bring in.
+    fn paid_out(&self, margin: &Margin, pays: &[i64]) -> i128 {
         let money = |row: usize, quantity: i64| {
             i128::from(pays[row]) * i128::from(self.series.m) * i128::from(quantity)
         };
         let quantity = |row: usize| self.account.positions[row].quantity;
         let out: i128 = self.written.iter().map(|&row| money(row, quantity(row))).sum();
         let of_series = |held: usize| self.account.positions[held].series == self.number;
-        let pairs = self.claim.margin.pairs.iter().filter(|pair| of_series(pair.held));
+        let pairs = margin.pairs.iter().filter(|pair| of_series(pair.held));
         out - pairs.map(|pair| money(pair.held, pair.quantity)).sum::<i128>()
     }
 
