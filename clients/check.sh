@@ -6,7 +6,7 @@ set -eu
 cd "$(dirname "$0")/.."
 bash library/prove.sh
 archive=${SERPENTGLEAM_LIBRARY:-target/staticlib/libserpentgleam.a}
-for client in limit_screen collateral_call series_factors end_of_day; do
+for client in limit_screen collateral_call series_factors end_of_day instalments; do
     gcc -std=c11 -O2 -Wall -Wextra -Wpedantic -Werror -Iinclude -o "target/$client" "clients/$client.c" "$archive"
 done
 while read -r account row; do
@@ -25,5 +25,9 @@ while read -r account series high low close; do
     printf '%s %s %s %s %s: ' "$account" "$series" "$high" "$low" "$close"
     target/end_of_day "examples/$account" "$series" "$high" "$low" "$close" || true
 done < clients/day_questions.txt >> target/clients.out
+for account in examples/*.account; do
+    printf '%s in instalments\n' "${account#examples/}"
+    target/instalments "$account" || true
+done >> target/clients.out
 diff clients/expected.txt target/clients.out
 echo "clients: $(wc -l < clients/expected.txt) lines as expected"

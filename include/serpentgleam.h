@@ -11,7 +11,8 @@
  * It reads the bytes handed over during the call alone and keeps no pointer to them; the caller owns them before, during
  * and after. It writes nothing to a file's bytes, except in serpentgleam_day, which writes to the bytes lent to it during
  * the call alone: until it is done they must not be handed to another call. The same holds of a list of lines, which
- * serpentgleam_margin writes during the call alone and which must not overlap the file's bytes.
+ * serpentgleam_margin and serpentgleam_pair write during the call alone; serpentgleam_pair and serpentgleam_amount_so_far
+ * read it. It must not overlap the file's bytes.
  *
  * An account file has at most 65,536 bytes. Any bytes may be handed over: a file that is not in order is refused, and
  * nothing is read or written outside it. With length 0 the pointer may be NULL.
@@ -21,7 +22,7 @@
  * rounded up to one centavo: with the same calls, structs and shared object's name, the amount of a line or of a written
  * position is now 0 to 99 centavos more. Which library is installed is said by `pkg-config --modversion serpentgleam`.
  *
- * A refusal is a number from 1 to 17, below with a name for each; serpentgleam_refusal_sentence gives its sentence. The
+ * A refusal is a number from 1 to 18, below with a name for each; serpentgleam_refusal_sentence gives its sentence. The
  * numbers 3 and 15 are not used. An account without positions is accepted, with no lines, premiums 0 and total 0.
  */
 #ifndef SERPENTGLEAM_H
@@ -31,9 +32,9 @@
 #include <stdint.h>
 
 /* The version of this header and of the library that it came with. */
-#define SERPENTGLEAM_VERSION "0.6.0"
+#define SERPENTGLEAM_VERSION "0.7.0"
 #define SERPENTGLEAM_VERSION_MAJOR 0
-#define SERPENTGLEAM_VERSION_MINOR 6
+#define SERPENTGLEAM_VERSION_MINOR 7
 #define SERPENTGLEAM_VERSION_PATCH 0
 
 /* Limits of every account: bytes of its file, series, positions, and lines of its margin. */
@@ -69,6 +70,7 @@
 #define SERPENTGLEAM_REFUSED_FACTORS_ASKED_FOR 14
 #define SERPENTGLEAM_REFUSED_SERIES_ASKED_FOR 16
 #define SERPENTGLEAM_REFUSED_DAY_PRICES 17
+#define SERPENTGLEAM_REFUSED_NOT_FIRST_PAIRS 18
 
 #ifdef __cplusplus
 extern "C" {
@@ -108,6 +110,8 @@ static inline const char *serpentgleam_refusal_sentence(uint64_t number)
         return "there is no series of the number asked for";
     case SERPENTGLEAM_REFUSED_DAY_PRICES:
         return "the day's prices: high below low, close outside them, or one of the three not 1 to 10,000,000";
+    case SERPENTGLEAM_REFUSED_NOT_FIRST_PAIRS:
+        return "the lines in the list are not the account's first pairs";
     default:
         return "there is no refusal of this number";
     }
@@ -234,6 +238,43 @@ struct serpentgleam_factors serpentgleam_factors(uint64_t code, uint64_t days);
  */
 struct serpentgleam_answer serpentgleam_day(uint8_t *file, size_t length, uint64_t series, uint64_t high, uint64_t low,
                                             uint64_t close);
+
+/*
+ * Pairs an account in instalments: makes the next pairs, at most as many as are allowed, and writes them into the caller's
+ * list after those that are there. All calls together make the pairs that serpentgleam_margin makes, in its order.
+ *
+ * file, length: the account file's bytes, the same in each call: nothing is kept between calls.
+ * lines, room: the list and how many entries it has, as many as for serpentgleam_margin; with room 0 the pointer may be NULL.
+ * count: how many pair lines are in the list already, in its entries 0 to count - 1.
+ * allowance: the most pairs that this call makes. With 0 it makes none.
+ *
+ * A caller begins with count 0 and a list of any content. The value is how many pairs this call made: they are pair lines in
+ * the entries from count on, and the next call has count + value. All pairs are made when a call makes fewer than it was
+ * allowed; the last call may make none. Every other entry keeps its content: no left lines are written. The whole list with
+ * these is written by serpentgleam_margin.
+ *
+ * Answers the value, or the refusal: that of the file; then SERPENTGLEAM_REFUSED_LIST_TOO_SHORT as for serpentgleam_margin;
+ * then SERPENTGLEAM_REFUSED_NOT_FIRST_PAIRS where one of the five numbers of one of the first count entries is not that of
+ * the account's pair, or count is above the number of the account's pairs, or above room. The last two have row 0. On a
+ * refusal every entry keeps its content. Any count and any allowance may be handed over. A call takes at most about as long
+ * as serpentgleam_margin does.
+ */
+struct serpentgleam_answer serpentgleam_pair(const uint8_t *file, size_t length, struct serpentgleam_line *lines, size_t room,
+                                             uint64_t count, uint64_t allowance);
+
+/*
+ * The amount in centavos of an account that is paired in instalments: the amounts of its pairs so far, of each row with
+ * contracts left after them the amount that its left line would have (0 if held), and the premiums of all held rows.
+ *
+ * file, length, lines, room, count: as for serpentgleam_pair, with the same refusals. The list is not written to.
+ *
+ * After all pairs it is the total of serpentgleam_margin, and it is never larger than the largest total named there. It need
+ * not fall with each pair: a pair can raise it, by at most 100 centavos. Promised is the cover, whatever the count: where
+ * every fb is at most 1,000,000, the amount so far and what the held rows pay for their contracts in the pairs so far are on
+ * every path at least what the written rows pay.
+ */
+struct serpentgleam_answer serpentgleam_amount_so_far(const uint8_t *file, size_t length, const struct serpentgleam_line *lines,
+                                                      size_t room, uint64_t count);
 
 #ifdef __cplusplus
 }

@@ -1,8 +1,10 @@
 //! Ways of choosing the pairs of an account, and the accounts that they are measured on. Reading, rules, lines and total
-//! are the reference's. Beside them the factors from the days, a day and its accounts, and how calls are timed.
+//! are the reference's. Beside them the factors from the days, a day and its accounts, the instalments of a pairing, and how
+//! calls are timed.
 
 pub mod day;
 pub mod factors;
+pub mod instalments;
 pub mod shapes;
 pub mod small;
 pub mod timing;

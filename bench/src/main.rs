@@ -1,22 +1,26 @@
 //! Measures the proved engine against the same work in Rust, from bytes to lines, and prints the tables of
 //! docs/PERFORMANCE.md. Every program's answer is compared with the engine's before it is timed.
 
+use std::cell::RefCell;
 use std::hint::black_box;
 
 use bench::day::{day_account, DAY};
 use bench::factors::Tables;
+use bench::instalments::{counts, ALLOWANCE};
 use bench::pairs_in;
 use bench::shapes::{account, Shape, SHAPES};
-use bench::timing::{measure, rounds_asked};
+use bench::timing::{measure, measure_each, rounds_asked};
 use bench::ways::{lanes, repeated_search, tournament};
 use reference::day::{apply_day, Day};
 use reference::factors::Factors;
+use reference::instalments::{amount_so_far, pair_into};
 use reference::lines::{margin_into_by, Entry};
 use reference::position::one_position;
 use reference::reader::Refusal;
 
 /// Line count and total, or the refusal.
 type Answer = Result<(usize, i64), Refusal>;
+type List = [Entry; 256];
 type Program = fn(&[u8], &mut [Entry]) -> Answer;
 type PositionProgram = fn(&[u8], u64) -> i64;
 type FactorsProgram<'a> = &'a dyn Fn(u64, u64) -> Result<Factors, Refusal>;
@@ -149,12 +153,16 @@ fn factors_table(rounds: usize) {
     }
 }
 
-fn engine_day(file: &mut [u8], day: &Day) -> Result<(), Refusal> {
-    let answer = library::day(file, day.series, day.high, day.low, day.close);
+/// The value of an answer, or the refusal.
+fn value(answer: library::Answer) -> Result<u64, Refusal> {
     match answer.refusal {
-        0 => Ok(()),
+        0 => Ok(answer.value),
         number => Err(Refusal { number: number as i64, row: answer.row as usize }),
     }
+}
+
+fn engine_day(file: &mut [u8], day: &Day) -> Result<(), Refusal> {
+    value(library::day(file, day.series, day.high, day.low, day.close)).map(|_| ())
 }
 
 /// The reference's answer and bytes must be the engine's, and the day must have changed the file.
@@ -192,6 +200,63 @@ fn day_table(rounds: usize) {
     }
 }
 
+/// The lines of the margin. Made in instalments, its pairs and the amounts between must be the reference's, and the last
+/// amount the total.
+fn compare_instalments(file: &[u8]) -> List {
+    let [mut list, mut made, mut expected] = [[Entry::default(); 256]; 3];
+    let (_, total) = engine(file, &mut list).expect("the engine's margin");
+    let pairs = pairs_in(&list);
+    for count in counts(pairs) {
+        let amount = value(library::amount_so_far(file, &made, count));
+        assert!(amount == amount_so_far(file, &expected, count).map(|amount| amount as u64));
+        let number = value(library::pair(file, &mut made, count, ALLOWANCE));
+        assert!(number == pair_into(file, &mut expected, count, ALLOWANCE) && made == expected);
+    }
+    assert!(made[..pairs] == list[..pairs]);
+    assert!(value(library::amount_so_far(file, &made, pairs as u64)) == Ok(total as u64));
+    list
+}
+
+/// Times of one margin and of all instalments together, of the longest call among these, and of the longest for the amount
+/// before one of them. A call finds its lines in the list that all calls share, and writes there what stood there.
+fn instalment_times(rounds: usize, file: &[u8], list: List) -> [f64; 4] {
+    let (pairs, list) = (pairs_in(&list), &RefCell::new(list));
+    let pair = move |count| {
+        black_box(library::pair(black_box(file), &mut *list.borrow_mut(), count, ALLOWANCE));
+    };
+    let margin = || {
+        black_box(library::margin(black_box(file), &mut *list.borrow_mut()));
+    };
+    let [margin, all] = measure(rounds, [&margin, &|| counts(pairs).for_each(pair)]);
+    let calls: Vec<_> = counts(pairs).map(|count| move || pair(count)).collect();
+    let amounts = counts(pairs).map(|count| {
+        move || {
+            black_box(library::amount_so_far(black_box(file), &*list.borrow(), count));
+        }
+    });
+    let longest = |times: Vec<f64>| times.into_iter().fold(0.0, f64::max);
+    let call = longest(measure_each(rounds, &calls));
+    [margin, all, call, longest(measure_each(rounds, &amounts.collect::<Vec<_>>()))]
+}
+
+fn instalment_table(rounds: usize) {
+    println!("\n### Pairing in instalments\n");
+    println!("256 rows, {ALLOWANCE} pairs a call, up to the call that makes fewer.\n");
+    print!("| shape | pairs | calls | margin | all calls | longest call | longest amount so far");
+    println!(" | all / margin | call / margin | amount / margin |");
+    println!("|---|---|---|---|---|---|---|---|---|---|");
+    for shape in SHAPES.iter().filter(|shape| shape.pairs) {
+        let file = &account(shape, 256);
+        let list = compare_instalments(file);
+        let pairs = pairs_in(&list);
+        let [margin, all, call, amount] = instalment_times(rounds, file, list);
+        print!("| {} | {pairs} | {}", shape.name, counts(pairs).count());
+        print!(" | {margin:.1} | {all:.1} | {call:.1} | {amount:.1}");
+        let [all, call, amount] = [all, call, amount].map(|time| time / margin);
+        println!(" | {all:.1} | {call:.2} | {amount:.2} |");
+    }
+}
+
 fn main() {
     let rounds = rounds_asked(30);
     println!("Microseconds a call, the best of {rounds} bursts of a millisecond each.");
@@ -200,4 +265,5 @@ fn main() {
     position_table(rounds);
     factors_table(rounds);
     day_table(rounds);
+    instalment_table(rounds);
 }

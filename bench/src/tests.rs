@@ -1,5 +1,6 @@
 //! Every way gives the lines and the total of the reference, and the tables its factors. Of the single positions of each kind
-//! at least a quarter are at the minimum margin and a quarter above it. The measured day touches about half of the barriers.
+//! at least a quarter are at the minimum margin and a quarter above it. The measured day touches about half of the barriers,
+//! and the measured instalments make all pairs.
 
 use std::collections::HashSet;
 use std::mem::discriminant;
@@ -8,6 +9,7 @@ use reference::account::Barrier;
 use reference::day::apply_day;
 use reference::factors::factors;
 use reference::factors_list::codes_and_days;
+use reference::instalments::pair_into;
 use reference::lines::{margin_into, margin_into_by, Entry, Pairing};
 use reference::position::written_unit_margin;
 use reference::random::Random;
@@ -16,6 +18,7 @@ use reference::sample::{limited_alike, sample_account, Shape};
 
 use crate::day::{day_account, DAY};
 use crate::factors::Tables;
+use crate::instalments::{counts, ALLOWANCE};
 use crate::pairs_in;
 use crate::shapes::{account, SHAPES};
 use crate::small::{single_positions, small_accounts, KINDS};
@@ -136,5 +139,22 @@ fn the_day_touches_about_half_of_the_barriers() {
         let (_, touched) = barriers_and_touched(&file);
         let about_half = barriers / 3..=2 * barriers / 3;
         assert!(about_half.contains(&touched), "{size} rows: {touched} of {barriers}");
+    }
+}
+
+#[test]
+fn the_instalments_make_all_pairs() {
+    for shape in SHAPES.iter().filter(|shape| shape.pairs) {
+        let file = account(shape, 64);
+        let [mut whole, mut made] = [[Entry::default(); 256]; 2];
+        assert!(margin_into(&file, &mut whole).is_ok());
+        let pairs = pairs_in(&whole);
+        let numbers: Vec<u64> = counts(pairs)
+            .map(|count| pair_into(&file, &mut made, count, ALLOWANCE).unwrap())
+            .collect();
+        let (last, before) = numbers.split_last().unwrap();
+        assert!(before.iter().all(|number| *number == ALLOWANCE) && *last < ALLOWANCE);
+        assert!(made[..pairs] == whole[..pairs], "{}", shape.name);
+        assert_eq!(pairs_in(&made), pairs, "{}", shape.name);
     }
 }

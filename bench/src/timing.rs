@@ -21,7 +21,12 @@ fn burst(mut call: impl FnMut()) -> f64 {
 /// The best of each program over the rounds. The programs take turns, so that a change of the machine's clock affects
 /// all of them.
 pub fn measure<const N: usize>(rounds: usize, calls: [&dyn Fn(); N]) -> [f64; N] {
-    let mut best = [f64::MAX; N];
+    measure_each(rounds, &calls).try_into().expect("a time for each program")
+}
+
+/// The same of any number of programs.
+pub fn measure_each(rounds: usize, calls: &[impl Fn()]) -> Vec<f64> {
+    let mut best = vec![f64::MAX; calls.len()];
     for _ in 0..rounds {
         for (time, call) in best.iter_mut().zip(calls) {
             *time = time.min(burst(call));

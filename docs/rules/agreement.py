@@ -1,4 +1,5 @@
 """Where hand arithmetic and product meet: what the product prints, if it is what the hand arithmetic says."""
+from . import instalments, product
 from .day import refused, text_after
 from .pairing import answer_of
 from .product import file_after, file_from_text, printed
@@ -35,3 +36,24 @@ def agreed_refusal(text, day):
     """The line that day_batch writes for a day that is refused; the file after it is as it was."""
     file = file_from_text(text)
     return same(f'{text}{day}', file_after(file, day), (refused(text, day), file))[0]
+
+
+def agreed_amounts(text, name, allowance):
+    """The lines that the command prints for an account in instalments; after the last pair the amount is the total."""
+    rows = rows_from(text)
+    hand = [(count, instalments.amount_after(rows, count)) for count in instalments.counts_between(rows, allowance)]
+    same(name, agreed(text)[-1], f'total {hand[-1][1]}')
+    return same(f'{name} {allowance}', product.instalments_printed(name, allowance),
+                [f'pairs {count} {amount}' for count, amount in hand])
+
+
+def agreed_call(text, entries, count, allowance):
+    """What serpentgleam_pair answers for an account's text and a list, and the list after it."""
+    return same(f'{text}{entries} {count} {allowance}', product.paired(file_from_text(text), entries, count, allowance),
+                instalments.paired(rows_from(text), entries, count, allowance))
+
+
+def agreed_amount(text, entries, count):
+    """What serpentgleam_amount_so_far answers for them."""
+    return same(f'{text}{entries} {count}', product.amount_so_far(file_from_text(text), entries, count),
+                instalments.amount_so_far(rows_from(text), entries, count))

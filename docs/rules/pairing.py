@@ -62,9 +62,10 @@ class Answer(NamedTuple):
     workings: list
 
 
-def answer_of(rows):
-    """The lines, premiums and total of an account."""
-    steps, left = steps_of(rows)
+def answer_of(rows, count=None):
+    """The lines, premiums and total of an account; with a count, if its first pairs alone are made, so many of them."""
+    steps = steps_of(rows)[0][:count]
+    left = steps[-1].left if steps else {row.number: row.Q for row in rows}
     lines, workings, total = [], [], 0
     for step in steps:
         centavos, working = amount(step.pair.spread, rows[step.pair.written], step.quantity)

@@ -1,4 +1,7 @@
-"""The product's answers: an account's text made into its file, and what the proved programs print."""
+"""The product's answers: an account's text made into its file, what the proved programs print, and what the library's
+calls for instalments answer.
+"""
+import ctypes
 import subprocess
 import sys
 from functools import lru_cache
@@ -6,8 +9,9 @@ from pathlib import Path
 
 ROOT = Path(__file__).resolve().parents[2]
 
-# The text form of an account. This is the one place that says where its modules are.
+# The text form of an account, and the library. This is the one place that says where their modules are.
 sys.path.insert(0, str(ROOT / 'python'))
+from serpentgleam import library
 from serpentgleam.layout import file_of
 from serpentgleam.lines import read_account
 
@@ -51,3 +55,42 @@ def file_after(file, day):
     case = b''.join(number.to_bytes(8, 'little') for number in day) + file
     line, after = output_of('day_batch', len(case).to_bytes(4, 'little') + case).split(b'\n', 1)
     return line.decode('ascii'), after.removesuffix(b'\n')
+
+
+def instalment_calls():
+    """The library's calls for instalments, from its shared object."""
+    try:
+        return library.instalment_calls()
+    except library.NotFound as missing:
+        sys.exit(str(missing))
+
+
+def told(answer):
+    """The number that a call answers, or its refusal, as words."""
+    return f'refused {answer.refusal} {answer.row}' if answer.refusal else str(answer.value)
+
+
+def in_list(entries):
+    """Entries of five numbers as C's list of lines."""
+    numbers = [number for entry in entries for number in entry]
+    return (ctypes.c_uint64 * len(numbers))(*numbers)
+
+
+def paired(file, entries, count, allowance):
+    """What serpentgleam_pair answers, and the list after it."""
+    lines, size = in_list(entries), library.LINE_NUMBERS
+    answer = told(instalment_calls().pair(file, len(file), lines, len(entries), count, allowance))
+    return answer, [tuple(lines[at:at + size]) for at in range(0, len(lines), size)]
+
+
+def amount_so_far(file, entries, count):
+    """What serpentgleam_amount_so_far answers."""
+    return told(instalment_calls().amount_so_far(file, len(file), in_list(entries), len(entries), count))
+
+
+def instalments_printed(name, allowance):
+    """The lines that the command prints for an account file, by its path from the top, without the file's name."""
+    instalment_calls()
+    words = [sys.executable, ROOT / 'python' / 'bin' / 'serpentgleam', 'instalments', name, str(allowance)]
+    run = subprocess.run(words, capture_output=True, check=True, cwd=ROOT)
+    return [line.split('\t')[1] for line in run.stdout.decode('utf-8').splitlines()]

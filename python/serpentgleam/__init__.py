@@ -7,15 +7,19 @@
     serpentgleam.margin_or_refusal(data)               # a Margin or a Refusal, for runs over many files
     serpentgleam.factors('FCI', 720)                   # fa and fb of a code's row and the days; raises Refused
     serpentgleam.day(data, 0, 3500, 2700, 2900)        # the file's bytes after a series' high, low and close
+    serpentgleam.pair(data, (), 8)                     # the first pairs, at most 8; with these in place of (), the next ones
+    serpentgleam.amount_so_far(data, ())               # the account's amount after these pairs
 
 Amounts are in centavos: those of lines and of written rows are whole reais, multiples of 100, premiums are exact, and
 the total is the sum, not rounded. Factors are whole millionths. Calls may be made from any threads.
 """
 from .answers import REASONS, Factors, Left, Margin, Pair, Refusal, Refused
 from .codes import CODES
-from .engine import day, day_or_refusal, factors, factors_or_refusal, margin, margin_or_refusal, position_amount
+from .engine import (amount_so_far, amount_so_far_or_refusal, day, day_or_refusal, factors, factors_or_refusal, margin,
+                     margin_or_refusal, pair, pair_or_refusal, position_amount)
 from .library import NotFound
 
-__version__ = '0.6.0'
-__all__ = ['CODES', 'REASONS', 'Factors', 'Left', 'Margin', 'NotFound', 'Pair', 'Refusal', 'Refused', 'day',
-           'day_or_refusal', 'factors', 'factors_or_refusal', 'margin', 'margin_or_refusal', 'position_amount']
+__version__ = '0.7.0'
+__all__ = ['CODES', 'REASONS', 'Factors', 'Left', 'Margin', 'NotFound', 'Pair', 'Refusal', 'Refused', 'amount_so_far',
+           'amount_so_far_or_refusal', 'day', 'day_or_refusal', 'factors', 'factors_or_refusal', 'margin',
+           'margin_or_refusal', 'pair', 'pair_or_refusal', 'position_amount']

@@ -7,14 +7,15 @@ from typing import Callable, NamedTuple, Tuple
 from . import __version__, library, usage
 from .answers import Refusal, Refused
 from .codes import NAMES, code_named
-from .engine import day_or_refusal, factors_or_refusal, margin_or_refusal, position_amount
+from .engine import (amount_so_far_or_refusal, day_or_refusal, factors_or_refusal, margin_or_refusal, pair,
+                     position_amount)
 from .forms import number_of
 from .inputs import (STANDARD_INPUT, Unread, called, names_in, read_account_file, read_either, read_text_file, shown)
 from .lines import Unreadable
 from .options import Options, WrongWords, read_options
 from .output import Unwritten, keep_standard_files_apart, output_to, say
 from .progress import Tally
-from .reports import Amount, Asked, Csv, JsonLines, PlainText, legible
+from .reports import Amount, Asked, Csv, JsonLines, PlainText, SoFar, legible
 from .suggestions import meant
 from .text import check, file_and_broken_rules, text_from_file
 
@@ -182,6 +183,39 @@ def run_day(options):
     return DONE
 
 
+def file_and_allowance(words):
+    """The file's name and the number that the words after `instalments` say."""
+    if len(words) != 2:
+        raise WrongWords('instalments takes a file and an allowance')
+    name, allowance = words
+    if not is_whole(allowance) or number_of(allowance) == 0:  # with 0 no pair is made, however many calls there are
+        raise WrongWords(f'an allowance is a whole number from 1 on: {shown(allowance)}')
+    return name, number_of(allowance)
+
+
+def amounts_so_far(data, allowance):
+    """The account before any pair and after each call that made some, until all are made; or the refusal."""
+    pairs, answers = (), []
+    while True:
+        amount = amount_so_far_or_refusal(data, pairs)
+        if isinstance(amount, Refusal):
+            return amount
+        answers.append(SoFar(len(pairs), amount))
+        made = pair(data, pairs, allowance)
+        if not made:
+            return answers
+        pairs += made
+
+
+def run_instalments(options):
+    name, allowance = file_and_allowance(options.names)
+    form, answer = form_of(options), amounts_so_far(read_account_file(name), allowance)
+    with output_of(options._replace(names=[name])) as output:
+        output.write(form.instalment_header)
+        output.write(form.instalments(name, answer))
+    return REFUSED if isinstance(answer, Refusal) else DONE
+
+
 def one_name(options):
     """The one file that is named, or standard input."""
     if len(options.names) > 1:
@@ -222,6 +256,7 @@ COMMANDS = {
     'position': Command(usage.POSITION, FORMS, run_position),
     'factors': Command(usage.FACTORS, FORMS, run_factors),
     'day': Command(usage.DAY, ('output',), run_day),
+    'instalments': Command(usage.INSTALMENTS, FORMS, run_instalments),
     'check': Command(usage.CHECK, FILES, run_check),
     'to-text': Command(usage.TO_TEXT, ('output',), run_to_text),
     'to-file': Command(usage.TO_FILE, ('output',), run_to_file),

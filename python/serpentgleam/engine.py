@@ -1,9 +1,9 @@
-"""The questions to the proved library: an account's margin, one position's amount, the factors of a series, and an
-account file after a day.
+"""The questions to the proved library: an account's margin, one position's amount, the factors of a series, an account
+file after a day, and an account's pairs in instalments.
 """
 import ctypes
 import operator
-from typing import Union
+from typing import Sequence, Tuple, Union
 
 from . import library
 from .answers import Factors, Left, Margin, Pair, Refusal, Refused
@@ -93,7 +93,7 @@ def position_amount(data: bytes, row: int) -> int:
 
 
 def number_for_call(number: int, what: str) -> int:
-    """The number to hand over for a number from 0 on: of one that is too large LARGEST, which is refused like it."""
+    """The number to hand over for a number from 0 on: of one that is too large LARGEST, which is answered like it."""
     number = operator.index(number)
     if number < 0:
         raise ValueError(f'{what} from 0 on: {number}')
@@ -143,6 +143,69 @@ def day(data: bytes, series: int, high: int, low: int, close: int) -> bytes:
     (97000, 93300)
     """
     answer = day_or_refusal(data, series, high, low, close)
+    if isinstance(answer, Refusal):
+        raise Refused(answer)
+    return answer
+
+
+def list_with(pairs: Sequence[Pair]):
+    """A list for the library that begins with these pairs. Of more than it has room for the first ones stand in it;
+    so many pairs are refused whatever they are.
+    """
+    lines = library.list_of_lines()
+    numbers = [number_for_call(number, 'what a pair has is a number')
+               for written, held, contracts, amount in pairs for number in (PAIR, written, held, contracts, amount)]
+    lines[:len(numbers)] = numbers[:len(lines)]
+    return lines
+
+
+def pair_or_refusal(data: bytes, pairs: Sequence[Pair], allowance: int) -> Union[Tuple[Pair, ...], Refusal]:
+    """The next pairs, or the refusal: for runs over many files, in which no refusal is raised."""
+    data, lines, count = as_bytes(data), list_with(pairs), len(pairs)
+    allowance = number_for_call(allowance, 'an allowance is a number')
+    answer = library.instalment_calls().pair(data, len(data), lines, library.MOST_LINES, count, allowance)
+    if answer.refusal:
+        return Refusal(answer.refusal, answer.row)
+    places = range(count * library.LINE_NUMBERS, (count + answer.value) * library.LINE_NUMBERS, library.LINE_NUMBERS)
+    return tuple(Pair(*lines[at + 1:at + library.LINE_NUMBERS]) for at in places)
+
+
+def pair(data: bytes, pairs: Sequence[Pair], allowance: int) -> Tuple[Pair, ...]:
+    """The pairs that follow an account's first pairs, at most as many as are allowed: fewer where there are no more.
+    Begun with no pairs, all calls together give those of margin. Raises Refused where the file is refused or the pairs
+    handed over are not its first ones (18).
+
+    >>> with open('examples/document.account', 'rb') as file:
+    ...     data = file.read()
+    >>> pairs = pair(data, (), 1)
+    >>> pairs
+    (Pair(written=0, held=2, contracts=3, amount=0),)
+    >>> pair(data, pairs, 8)
+    (Pair(written=0, held=1, contracts=4, amount=3000),)
+    """
+    answer = pair_or_refusal(data, pairs, allowance)
+    if isinstance(answer, Refusal):
+        raise Refused(answer)
+    return answer
+
+
+def amount_so_far_or_refusal(data: bytes, pairs: Sequence[Pair]) -> Union[int, Refusal]:
+    """The amount so far, or the refusal: for runs over many files, in which no refusal is raised."""
+    data, lines = as_bytes(data), list_with(pairs)
+    answer = library.instalment_calls().amount_so_far(data, len(data), lines, library.MOST_LINES, len(pairs))
+    return Refusal(answer.refusal, answer.row) if answer.refusal else answer.value
+
+
+def amount_so_far(data: bytes, pairs: Sequence[Pair]) -> int:
+    """The amount in centavos of an account of which these first pairs are made: theirs, that of each row's contracts
+    left, 0 if held, and the premiums. After all pairs it is the margin's total. Raises Refused as pair does.
+
+    >>> with open('examples/document.account', 'rb') as file:
+    ...     data = file.read()
+    >>> [amount_so_far(data, margin(data).pairs[:count]) for count in range(3)]
+    [25300, 17800, 10800]
+    """
+    answer = amount_so_far_or_refusal(data, pairs)
     if isinstance(answer, Refusal):
         raise Refused(answer)
     return answer

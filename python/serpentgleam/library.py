@@ -97,6 +97,20 @@ def day_call():
     return call('day', Answer, ctypes.c_void_p, ctypes.c_size_t, *[ctypes.c_uint64] * 4)
 
 
+class InstalmentCalls(NamedTuple):
+    """The library's calls for pairing in instalments, by their names in the C header, without its prefix."""
+    pair: Callable
+    amount_so_far: Callable
+
+
+@functools.lru_cache(maxsize=None)
+def instalment_calls():
+    """The calls for pairing in instalments; a library before version 0.7.0 does not have them."""
+    file_and_list = (ctypes.c_char_p, ctypes.c_size_t, ctypes.c_void_p, ctypes.c_size_t, ctypes.c_uint64)
+    return InstalmentCalls(call('pair', Answer, *file_and_list, ctypes.c_uint64),
+                           call('amount_so_far', Answer, *file_and_list))
+
+
 def list_of_lines():
     """A list that has room for the lines of any account, as C sees it."""
     return (ctypes.c_uint64 * (MOST_LINES * LINE_NUMBERS))()

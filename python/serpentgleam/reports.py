@@ -12,6 +12,7 @@ ESCAPES = str.maketrans({'\\': '\\\\', '\t': '\\t', '\n': '\\n', '\r': '\\r'})
 ANSWER_FIELDS = ('file', 'kind', 'written', 'held', 'row', 'contracts', 'amount', 'number', 'reason')
 FAULT_FIELDS = ('file', *Fault._fields)
 FACTOR_FIELDS = ('code', 'days', 'fa', 'fb', 'number', 'row', 'reason')
+INSTALMENT_FIELDS = ('file', 'pairs', 'amount', 'number', 'row', 'reason')
 
 
 class Amount(NamedTuple):
@@ -24,6 +25,12 @@ class Asked(NamedTuple):
     """What factors are asked for: a code, by its name where it has one, and days."""
     code: Union[str, int]
     days: int
+
+
+class SoFar(NamedTuple):
+    """How many pairs of an account are made, and its amount after them."""
+    pairs: int
+    amount: int
 
 
 def line_records(margin):
@@ -49,12 +56,22 @@ def records(answer):
 
 class PlainText:
     """A line for each line of the answer, after the file's name and a tab; the sentence of a refusal after another."""
-    answer_header = fault_header = factor_header = b''
+    answer_header = fault_header = factor_header = instalment_header = b''
 
     def answer(self, name, answer):
         """The lines of a file's answer."""
+        return self.lines(name, records(answer))
+
+    def instalments(self, name, answer):
+        """A line for each number of pairs and the amount after them, or the refusal."""
+        if isinstance(answer, Refusal):
+            return self.answer(name, answer)
+        return self.lines(name, [{'kind': 'pairs', **so_far._asdict()} for so_far in answer])
+
+    def lines(self, name, answers):
+        """The lines of these records."""
         before = os.fsencode(name.translate(ESCAPES)) + b'\t'
-        return b''.join(before + self.line(record).encode() for record in records(answer))
+        return b''.join(before + self.line(record).encode() for record in answers)
 
     def line(self, record):
         """A line as the program margin prints it."""
@@ -74,7 +91,7 @@ class PlainText:
 
 class JsonLines:
     """An object for each file. In a name, bytes that are not UTF-8 are \\xNN, and file_hex has all its bytes then."""
-    answer_header = fault_header = factor_header = b''
+    answer_header = fault_header = factor_header = instalment_header = b''
 
     def object(self, name, fields):
         """A line with the file's name and the fields."""
@@ -92,6 +109,11 @@ class JsonLines:
             return self.object(name, {'refused': refusal_record(answer)})
         return self.object(name, answer._asdict())
 
+    def instalments(self, name, answer):
+        if isinstance(answer, Refusal):
+            return self.answer(name, answer)
+        return self.object(name, {'instalments': [so_far._asdict() for so_far in answer]})
+
     def faults(self, name, faults):
         return self.object(name, {'faults': [fault._asdict() for fault in faults]})
 
@@ -105,6 +127,7 @@ class Csv:
     answer_header = (','.join(ANSWER_FIELDS) + '\n').encode()
     fault_header = (','.join(FAULT_FIELDS) + '\n').encode()
     factor_header = (','.join(FACTOR_FIELDS) + '\n').encode()
+    instalment_header = (','.join(INSTALMENT_FIELDS) + '\n').encode()
 
     def rows(self, fields, name, rows):
         """Rows whose first field is the name."""
@@ -116,6 +139,11 @@ class Csv:
 
     def answer(self, name, answer):
         return self.rows(ANSWER_FIELDS, name, records(answer))
+
+    def instalments(self, name, answer):
+        refused = isinstance(answer, Refusal)
+        return self.rows(INSTALMENT_FIELDS, name,
+                         [refusal_record(answer)] if refused else [so_far._asdict() for so_far in answer])
 
     def faults(self, name, faults):
         return self.rows(FAULT_FIELDS, name, [fault._asdict() for fault in faults])

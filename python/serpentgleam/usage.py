@@ -7,6 +7,7 @@ COMMAND = '''usage: serpentgleam COMMAND ..
   position FILE ROW      the amount of one position row by itself
   factors CODE DAYS      the factors fa and fb of a series, by the circular's row of a code and the days to expiry
   day FILE SERIES ..     the account file after a day: high, low and close of a series
+  instalments FILE ..    an account's amount before any pair and after each call, so many pairs a call
   check FILE..           every fault of texts and account files, with line, row and field
   to-text [FILE]         an account file as text
   to-file [TEXT]         the account file of a text
@@ -91,6 +92,21 @@ is not 1 to 10000000. Then OUTPUT is not written.
   SERIES                 the series row, counted from 0
   HIGH LOW CLOSE         prices of the day in whole ticks
   -o, --output OUTPUT    into this file, which appears whole or not at all; it may be FILE itself
+'''
+
+INSTALMENTS = '''usage: serpentgleam instalments [--json | --csv] [-o OUTPUT] FILE ALLOWANCE
+
+Pairs an account in instalments and prints, after the file's name and a tab, pairs PAIRS AMOUNT: how many pairs are made
+and the amount so far in centavos, that of the pairs, of each row's contracts left (0 if held) and of the premiums. The
+first line is that before any pair, then there is one for each call that made pairs; the last is that after all pairs,
+whose amount is the total of margin. A pair can raise the amount, by at most 100 centavos. Or refused NUMBER ROW, and
+after a tab why.
+
+  FILE                   - is standard input
+  ALLOWANCE              the most pairs that a call makes, 1 or more
+''' + FORMS + '''
+JSON     file, instalments (each with pairs and amount); or file and refused (number, row, reason)
+CSV      file, pairs, amount, number, row, reason
 '''
 
 CHECK = '''usage: serpentgleam check [--json | --csv] [-o OUTPUT] [-q] [--from LIST [-0]] [FILE..]

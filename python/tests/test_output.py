@@ -31,7 +31,7 @@ class FullDisk(unittest.TestCase):
     def test_no_room_at_all(self):
         for words in self.calls + (['position', DOCUMENT, '0'], ['factors', 'FCI', '720'], ['factors', 'FCI', '1801'],
                                    ['day', DOCUMENT, '1', '1', '1', '1', '-o', self.text], ['check', '--csv', DOCUMENT],
-                                   ['--help'], ['--version'], ['margin', '--help']):
+                                   ['instalments', DOCUMENT, '8'], ['--help'], ['--version'], ['margin', '--help']):
             with self.subTest(words), open('/dev/full', 'wb') as full:
                 status, _, errors = command(*words, stdout=full)
                 self.assertEqual((status, errors), (2, 'serpentgleam: standard output: No space left on device; the '
@@ -124,7 +124,7 @@ class ClosedPipe(unittest.TestCase):
     def test_every_command(self):
         for words in (['margin', *EXAMPLES], ['margin', '--json', *EXAMPLES], ['position', DOCUMENT, '0'],
                       ['factors', 'FCI', '720'], ['day', DOCUMENT, '1', '1', '1', '1', '-o', 'none/out'],
-                      ['check', '--csv', *EXAMPLES], ['to-text', DOCUMENT],
+                      ['instalments', DOCUMENT, '8'], ['check', '--csv', *EXAMPLES], ['to-text', DOCUMENT],
                       ['to-file', DOCUMENT.replace('.account', '.txt')], ['--help'], ['--version']):
             self.check(*words)
 
@@ -198,6 +198,7 @@ class HugeFile(unittest.TestCase):
             self.assertRegex(command('position', name, '0', **little_memory)[1].decode(), r'\trefused 1 0\t')
             self.assertEqual(command('day', name, '0', '1', '1', '1', '-o', huge, **little_memory)[:2],
                              (1, b'refused 1 0\n'))
+            self.assertRegex(command('instalments', name, '8', **little_memory)[1].decode(), r'\trefused 1 0\t')
             self.assertRegex(command('check', name, **little_memory)[1].decode(), ': refusal 1: the file has more than')
             self.assertRegex(command('to-text', name, **little_memory)[2], 'refused 1 0: the file has more than 65536')
             self.assertRegex(command('to-file', name, **little_memory)[2], 'the text has more than 2097152 bytes')
