@@ -217,3 +217,17 @@ pub fn example() -> Draft {
         ],
     )
 }
+
+/// A plain written row of series 0, and a plain held one.
+pub fn written(strike: u32, quantity: u32) -> PositionDraft {
+    PositionDraft::plain(0, WRITTEN, strike, quantity)
+}
+
+pub fn held(strike: u32, quantity: u32) -> PositionDraft {
+    PositionDraft::plain(0, HELD, strike, quantity)
+}
+
+/// The file of an account with one series.
+pub fn file(series: SeriesDraft, rows: &[PositionDraft]) -> Vec<u8> {
+    Draft::new(vec![series], rows.to_vec()).bytes()
+}

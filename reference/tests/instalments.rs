@@ -1,7 +1,7 @@
 //! Pairing in instalments (document 02 [7]): pairs, amounts between, refusals.
 
 use reference::account::Account;
-use reference::draft::{example, Draft, PositionDraft, SeriesDraft, CALL, HELD, PUT, WRITTEN};
+use reference::draft::{example, file, held, written, Draft, SeriesDraft, CALL, PUT};
 use reference::instalments::{amount_so_far, pair_into, HalfPaired};
 use reference::lines::{margin, margin_into, pair_entry, premiums, Entry};
 use reference::random::Random;
@@ -21,18 +21,6 @@ const SMALL: Shape = Shape {
     m: (1, 3),
     fb_above_one: true,
 };
-
-fn written(strike: u32, quantity: u32) -> PositionDraft {
-    PositionDraft::plain(0, WRITTEN, strike, quantity)
-}
-
-fn held(strike: u32, quantity: u32) -> PositionDraft {
-    PositionDraft::plain(0, HELD, strike, quantity)
-}
-
-fn file(series: SeriesDraft, rows: &[PositionDraft]) -> Vec<u8> {
-    Draft::new(vec![series], rows.to_vec()).bytes()
-}
 
 /// The refusal of both calls with this allowance and others; the list stays.
 fn refusal(bytes: &[u8], list: &[Entry], count: u64) -> (i64, usize) {

@@ -4,25 +4,13 @@
 use std::collections::BTreeSet;
 
 use reference::account::{fine, Account, OptionType, Side};
-use reference::draft::{Draft, PositionDraft, SeriesDraft, CALL, HELD, PUT, UP_AND_OUT, WRITTEN};
+use reference::draft::{file, held, written, PositionDraft, SeriesDraft, CALL, PUT, UP_AND_OUT};
 use reference::lines::{exact_of_left, exact_of_pair, margin, premiums, rows_left, Margin};
 use reference::output::{amounts_output, margin_output, outputs_of};
 use reference::pairing::contracts;
 use reference::position::{amount, one_position, position_amount, premium_amount};
 use reference::reader::read_account;
 use reference::vectors::all_cases;
-
-fn written(strike: u32, quantity: u32) -> PositionDraft {
-    PositionDraft::plain(0, WRITTEN, strike, quantity)
-}
-
-fn held(strike: u32, quantity: u32) -> PositionDraft {
-    PositionDraft::plain(0, HELD, strike, quantity)
-}
-
-fn file(series: SeriesDraft, rows: &[PositionDraft]) -> Vec<u8> {
-    Draft::new(vec![series], rows.to_vec()).bytes()
-}
 
 /// An exact multiple stays; one fine unit more goes to the next one.
 #[test]

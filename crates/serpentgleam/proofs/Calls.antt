@@ -5,7 +5,7 @@
 --     calls-count      `line_count`. Here and in the next the operand is looked up one entry further
 --     calls-numbers    `numbers_of`
 -- `write_entries` is in crate `lent` (`WriteCall.antt`).
-use Rattle.lent.proofs.Walk.{_≡_, refl, ℕ, _<_, _^_, [], _∷_, List, length, URA, fullShare, named, w64, Val, vint, SProp, ent, id⊢, emp, Lft, Share, GName, Fml, ftrue, flft, flent, Memory, Routine, Heap, Env, Calls, Loops, Atoms, Fun, Ends, lands, Given, Item, runs, ‵, raw, _⊛_, ⋆, _$_, _∵_, !, qed, move, use1, split, join, rewrite, fsplit, fjoin, frame, done, drop, use3, feqL, Seq, FmC, Is, uint-makes, usize, u64, u8, RefT, sliceVal, MutSlice, ShrSlice, shr-slice-copy, Held, row, owned, nothing, tripleOf, Contract, Triple, calls-at, lasts, says}
+use Rattle.lent.proofs.Walk.{_≡_, refl, ℕ, _<_, _^_, [], _∷_, List, length, URA, fullShare, w64, Val, vint, SProp, ent, id⊢, emp, Lft, Share, GName, flft, flent, Memory, Routine, Heap, Env, Calls, Loops, Atoms, Fun, Ends, lands, Given, Item, runs, ‵, raw, _⊛_, ⋆, _$_, _∵_, !, qed, move, split, join, fsplit, fjoin, frame, done, drop, feqL, Seq, FmC, Is, uint-makes, usize, u64, RefT, sliceVal, finally, Held, row, owned, nothing, tripleOf, Contract, Triple, lasts, says}
 use mir.Syntax.{Place, Opd as Operand, Body, seq, call}
 use types.Run.{Opds}
 use denote.Enum.Laws as EL
@@ -14,9 +14,9 @@ use Rattle.lines_and_total.specs.Settled.{Settled}
 use Rattle.rules.specs.declared.MarginAnswer.{MarginAnswer}
 use Rattle.serpentgleam.specs.MarginNumbers.{marginNumbers}
 use Rattle.serpentgleam.specs.declared.Margin.{Margin}
-use Rattle.lent.proofs.Calling.{calls-plain, returned}
-use Rattle.lent.proofs.Lending.{lends-row, row-back}
-use Rattle.lent.proofs.Zeros.{array, array-room, array-slice}
+use Rattle.lent.proofs.Calling.{calls-plain}
+use Rattle.lent.proofs.NumbersCall.{File, Lent, calls-lending}
+use Rattle.lent.proofs.Zeros.{array, array-slice}
 use Rattle.rules.proofs.MarginAnswer as E
 use Rattle.rules.proofs.MarginAnswer.Laws as E′
 use Rattle.serpentgleam.proofs.Margin as N
@@ -66,36 +66,30 @@ module _ {M : Type 1} (𝓤 : URA M) (H : Heap 𝓤) (A : Atoms 𝓤) (W : Given
   abbrev s : Val
   s = sliceVal (f .ptr) (length (f .now))
 
-  abbrev File : Fml
-  File = ShrSlice (named 0) κ u8 .own f (s ∷ [])
-
-  abbrev Numbers : ℕ → GName → Fml
-  Numbers ν δ = MutSlice (named 1) (ν ∷ []) u64 .own (array l δ numbers) (array-slice l ∷ [])
-
   abbrev args : GName → RefT (List ℕ) × (ℕ × (RefT (List ℕ) × Unit {0}))
   args δ = (f, (room, (array l δ numbers, tt)))
 
   abbrev to-settle : ℕ → GName → Settle 𝓤 H A mem run .Ghost
   to-settle ν δ = (((κ, (ν ∷ [], tt)), (p, (fullShare, tt)), tt, args δ, (s ∷ [], (vint w64 room ∷ [], (array-slice l ∷ [], tt)))), tt)
 
-  goes-settle : (ν : ℕ) (δ : GName) → ent 𝓤 (⋆ 𝓤 H A (‵ (flft κ p) ∷ ‵ (flft (ν ∷ []) fullShare) ∷ (‵ (Numbers ν δ) ⊛ ‵ File) ∷ [])) (Settle 𝓤 H A mem run .pre (to-settle ν δ))
+  goes-settle : (ν : ℕ) (δ : GName) → ent 𝓤 (⋆ 𝓤 H A (‵ (flft κ p) ∷ ‵ (flft (ν ∷ []) fullShare) ∷ (‵ (Lent l numbers ν δ) ⊛ ‵ (File κ f)) ∷ [])) (Settle 𝓤 H A mem run .pre (to-settle ν δ))
   goes-settle ν δ =
-      qed W (‵ (flft κ p) ∷ ‵ (flft (ν ∷ []) fullShare) ∷ (‵ (Numbers ν δ) ⊛ ‵ File) ∷ []) ∵ says ! long $ nothing ! $ move ! (2 ∷ 0 ∷ []) $ join ! $ move ! (1 ∷ 0 ∷ []) $ join ! $ frame ! $ split ! $
+      qed W (‵ (flft κ p) ∷ ‵ (flft (ν ∷ []) fullShare) ∷ (‵ (Lent l numbers ν δ) ⊛ ‵ (File κ f)) ∷ []) ∵ says ! long $ nothing ! $ move ! (2 ∷ 0 ∷ []) $ join ! $ move ! (1 ∷ 0 ∷ []) $ join ! $ frame ! $ split ! $
       nothing ! $ move ! (1 ∷ 0 ∷ []) $ fjoin ! $ owned ! usize (Is usize) (uint-makes 𝓤 H A W w64) room _ (refl, room-fits) $ fjoin ! $ move ! (1 ∷ 0 ∷ []) $ fjoin ! $ done !
+
+  -- the last values of its arguments, and of them the numbers
+  abbrev Last : Type 0
+  Last = Unit {0} × (Unit {0} × (List ℕ × Unit {0}))
+
+  last-settle : (ν : ℕ) (δ : GName) (vs : Last) → ent 𝓤 (⋆ 𝓤 H A (‵ (lasts settle.ended (κ, (ν ∷ [], tt)) (args δ) vs) ∷ [])) (⋆ 𝓤 H A (‵ (finally u64 δ (vs .1 .1 .0)) ∷ []))
+  last-settle ν δ vs =
+      qed W (‵ (lasts settle.ended (κ, (ν ∷ [], tt)) (args δ) vs) ∷ []) ∵ fsplit ! $ drop ! $ fsplit ! $ drop ! $ fsplit ! $ fsplit ! $ move ! (1 ∷ []) $ feqL ! (λ len. move ! (1 ∷ []) $ drop ! $ done !)
 
   module _ {K : Type 0} {i j : Item 𝓤} {Γ : List (Item 𝓤)} {En : Env 𝓤 H} {C : Calls 𝓤 H} {Λ : Loops 𝓤 H} {q : Ends 𝓤 H} {xs : List Operand} {d : Place} {rest : Body} where
     pub calls-settle : K → FmC 𝓤 H (W .laws) C → Triple 𝓤 (C #lines-and-total·settle) (Settle 𝓤 H A mem run)
-        → ((ν : ℕ) (δ : GName) → Opds K W (raw (Settle 𝓤 H A mem run .pre (to-settle ν δ)) ∷ ‵ (flent (ν ∷ []) (Held u64 (length numbers) l 0 δ)) ∷ i ∷ j ∷ ‵ File ∷ Γ) En xs (Settle 𝓤 H A mem run .args (to-settle ν δ)))
-        → ((w : Val) (r : MarginAnswer) (vs : List ℕ) → Settled (f .now) room vs r → Is E.the-row r (w ∷ []) → Seq K W (i ∷ j ∷ ‵ (row u64 fullShare vs l 0) ∷ ‵ (flft κ p) ∷ ‵ File ∷ Γ) (lands C Λ En d w rest q))
-        → Seq K W (i ∷ j ∷ ‵ (row u64 fullShare numbers l 0) ∷ ‵ (flft κ p) ∷ ‵ File ∷ Γ) (runs C Λ En (seq (call #lines-and-total·settle xs d) rest) q)
-    calls-settle t fm known os k =
-        move t (4 ∷ []) $ use1 W (‵ File ⊛ ‵ File) (shr-slice-copy 𝓤 H A W (named 0) κ u8 .twice f (s ∷ [])) $ split t $ move t (4 ∷ []) $
-        lends-row t tt u64 (named 1) numbers l 0 (array-room (length numbers) long) (λ ν δ. rewrite t 0 (λ (m : ℕ). ‵ (MutSlice (named 1) (ν ∷ []) u64 .own (array l δ numbers) (sliceVal (l, 0) m ∷ []))) long refl $
-        -- [the numbers, lent; what brings them back; the token ν; file; file; i; j; file's token]
-        move t (0 ∷ 3 ∷ []) $ join t $ move t (6 ∷ 2 ∷ 0 ∷ 1 ∷ 4 ∷ 5 ∷ []) $ use3 W (raw (Settle 𝓤 H A mem run .pre (to-settle ν δ))) (goes-settle ν δ) $
-        calls-at t fm (Settle 𝓤 H A mem run) known (to-settle ν δ) (os ν δ) (λ w.
-        returned t tt _ E.the-row w (‵ (flft κ p) ⊛ (‵ (flft (ν ∷ []) fullShare) ⊛ ‵ ftrue)) (lasts settle.ended (κ, (ν ∷ [], tt)) (args δ)) (λ (r : MarginAnswer) (vs : Unit {0} × (Unit {0} × (List ℕ × Unit {0}))). Settled (f .now) room (vs .1 .1 .0) r) (id⊢ 𝓤 _) (λ r vs e is.
-        -- [the last numbers; the tokens; the result; what brings them back; i; j; file]
-        fsplit t $ drop t $ fsplit t $ drop t $ fsplit t $ fsplit t $ move t (1 ∷ []) $ feqL t (λ len. move t (2 ∷ []) $ split t $ move t (1 ∷ []) $ split t $
-        -- [the token ν; true; file's token; the last numbers; true; the result; what brings them back; i; j; file]
-        move t (0 ∷ 6 ∷ 3 ∷ []) $ row-back t tt u64 ν δ (length numbers) (vs .1 .1 .0) l 0 $ move t (1 ∷ 3 ∷ 4 ∷ []) $ drop t $ drop t $ drop t $ move t (2 ∷ 3 ∷ []) $ k w r (vs .1 .1 .0) e is))))
+        → ((ν : ℕ) (δ : GName) → Opds K W (raw (Settle 𝓤 H A mem run .pre (to-settle ν δ)) ∷ ‵ (flent (ν ∷ []) (Held u64 (length numbers) l 0 δ)) ∷ i ∷ j ∷ ‵ (File κ f) ∷ Γ) En xs (Settle 𝓤 H A mem run .args (to-settle ν δ)))
+        → ((w : Val) (r : MarginAnswer) (vs : List ℕ) → Settled (f .now) room vs r → Is E.the-row r (w ∷ []) → Seq K W (i ∷ j ∷ ‵ (row u64 fullShare vs l 0) ∷ ‵ (flft κ p) ∷ ‵ (File κ f) ∷ Γ) (lands C Λ En d w rest q))
+        → Seq K W (i ∷ j ∷ ‵ (row u64 fullShare numbers l 0) ∷ ‵ (flft κ p) ∷ ‵ (File κ f) ∷ Γ) (runs C Λ En (seq (call #lines-and-total·settle xs d) rest) q)
+    calls-settle t fm known =
+        calls-lending 𝓤 H A W κ p f l numbers long t fm (Settle 𝓤 H A mem run) known to-settle goes-settle E.the-row
+        (λ ν δ (vs : Last). lasts settle.ended (κ, (ν ∷ [], tt)) (args δ) vs) (λ (vs : Last). vs .1 .1 .0) (λ (r : MarginAnswer) (vs : List ℕ). Settled (f .now) room vs r) (λ ν δ w. id⊢ 𝓤 _) last-settle

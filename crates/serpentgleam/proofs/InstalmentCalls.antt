@@ -5,7 +5,7 @@
 --     calls-after       `lines_after`
 --     calls-told       `told`
 -- `agree` and `write_entries` are in crate `lent` (`AgreeCall.antt`, `WriteCall.antt`).
-use Rattle.lent.proofs.Walk.{_≡_, refl, Bool, ℕ, _<_, _^_, [], _∷_, List, length, URA, fullShare, named, w64, Val, vint, vbool, SProp, ent, id⊢, emp, Lft, Share, GName, Fml, ftrue, flft, flent, Memory, Routine, Heap, Env, Calls, Loops, Atoms, Fun, Ends, lands, Given, Item, runs, ‵, raw, _⊛_, ⋆, _$_, _∵_, !, qed, move, use1, split, join, rewrite, fsplit, fjoin, feqI, frame, done, drop, use3, feqL, Seq, FmC, Is, uint-makes, usize, u64, u8, RefT, sliceVal, MutSlice, ShrSlice, shr-slice-copy, Held, row, owned, nothing, tripleOf, Contract, Triple, calls-at, lasts, says}
+use Rattle.lent.proofs.Walk.{_≡_, refl, Bool, ℕ, _<_, _^_, [], _∷_, List, length, URA, fullShare, w64, Val, vint, vbool, SProp, ent, id⊢, emp, Lft, Share, GName, flft, flent, Memory, Routine, Heap, Env, Calls, Loops, Atoms, Fun, Ends, lands, Given, Item, runs, ‵, raw, _⊛_, ⋆, _$_, _∵_, !, qed, move, split, join, fsplit, fjoin, feqI, frame, done, drop, feqL, Seq, FmC, Is, uint-makes, usize, u64, RefT, sliceVal, finally, Held, row, owned, nothing, tripleOf, Contract, Triple, lasts, says}
 use mir.Syntax.{Place, Opd as Operand, Body, seq, call}
 use types.Run.{Opds}
 use denote.Enum.Laws as EL
@@ -14,9 +14,9 @@ use Rattle.instalments.specs.declared.CallLines.{CallLines}
 use Rattle.lines.specs.LineNumbers.{mostNumbers}
 use Rattle.serpentgleam.specs.InstalmentNumbers.{toldNumbers}
 use Rattle.serpentgleam.specs.declared.Answer.{Answer}
-use Rattle.lent.proofs.Calling.{calls-plain, returned}
-use Rattle.lent.proofs.Lending.{lends-row, row-back}
-use Rattle.lent.proofs.Zeros.{array, array-room, array-slice}
+use Rattle.lent.proofs.Calling.{calls-plain}
+use Rattle.lent.proofs.NumbersCall.{File, Lent, calls-lending}
+use Rattle.lent.proofs.Zeros.{array, array-slice}
 use Rattle.instalments.proofs.CallLines as E
 use Rattle.instalments.proofs.CallLines.Laws as E′
 use Rattle.serpentgleam.proofs.Answer as N
@@ -89,23 +89,25 @@ module _ {M : Type 1} (𝓤 : URA M) (H : Heap 𝓤) (A : Atoms 𝓤) (W : Given
   abbrev s : Val
   s = sliceVal (f .ptr) (length (f .now))
 
-  abbrev File : Fml
-  File = ShrSlice (named 0) κ u8 .own f (s ∷ [])
-
-  abbrev Numbers : ℕ → GName → Fml
-  Numbers ν δ = MutSlice (named 1) (ν ∷ []) u64 .own (array l δ numbers) (array-slice l ∷ [])
-
   abbrev args : ℕ → GName → RefT (List ℕ) × (ℕ × (ℕ × (ℕ × (RefT (List ℕ) × Unit {0}))))
   args allowance δ = (f, (room, (count, (allowance, (array l δ numbers, tt)))))
 
   abbrev to-next : ℕ → ℕ → GName → NextPairs 𝓤 H A mem run .Ghost
   to-next allowance ν δ = (((κ, (ν ∷ [], tt)), (p, (fullShare, tt)), tt, args allowance δ, (s ∷ [], (vint w64 room ∷ [], (vint w64 count ∷ [], (vint w64 allowance ∷ [], (array-slice l ∷ [], tt)))))), tt)
 
-  goes-next : (allowance : ℕ) → allowance < 2 ^ 64 → (ν : ℕ) (δ : GName) → ent 𝓤 (⋆ 𝓤 H A (‵ (flft κ p) ∷ ‵ (flft (ν ∷ []) fullShare) ∷ (‵ (Numbers ν δ) ⊛ ‵ File) ∷ [])) (NextPairs 𝓤 H A mem run .pre (to-next allowance ν δ))
+  goes-next : (allowance : ℕ) → allowance < 2 ^ 64 → (ν : ℕ) (δ : GName) → ent 𝓤 (⋆ 𝓤 H A (‵ (flft κ p) ∷ ‵ (flft (ν ∷ []) fullShare) ∷ (‵ (Lent l numbers ν δ) ⊛ ‵ (File κ f)) ∷ [])) (NextPairs 𝓤 H A mem run .pre (to-next allowance ν δ))
   goes-next allowance fits ν δ =
-      qed W (‵ (flft κ p) ∷ ‵ (flft (ν ∷ []) fullShare) ∷ (‵ (Numbers ν δ) ⊛ ‵ File) ∷ []) ∵ says ! long $ nothing ! $ move ! (2 ∷ 0 ∷ []) $ join ! $ move ! (1 ∷ 0 ∷ []) $ join ! $ frame ! $ split ! $
+      qed W (‵ (flft κ p) ∷ ‵ (flft (ν ∷ []) fullShare) ∷ (‵ (Lent l numbers ν δ) ⊛ ‵ (File κ f)) ∷ []) ∵ says ! long $ nothing ! $ move ! (2 ∷ 0 ∷ []) $ join ! $ move ! (1 ∷ 0 ∷ []) $ join ! $ frame ! $ split ! $
       nothing ! $ move ! (1 ∷ 0 ∷ []) $ fjoin ! $ owned ! u64 (Is u64) (uint-makes 𝓤 H A W w64) allowance _ (refl, fits) $ fjoin ! $ owned ! u64 (Is u64) (uint-makes 𝓤 H A W w64) count _ (refl, count-fits) $ fjoin ! $
       owned ! usize (Is usize) (uint-makes 𝓤 H A W w64) room _ (refl, room-fits) $ fjoin ! $ move ! (1 ∷ 0 ∷ []) $ fjoin ! $ done !
+
+  -- the last values of its arguments, and of them the numbers
+  abbrev LastNext : Type 0
+  LastNext = Unit {0} × (Unit {0} × (Unit {0} × (Unit {0} × (List ℕ × Unit {0}))))
+
+  last-next : (allowance ν : ℕ) (δ : GName) (vs : LastNext) → ent 𝓤 (⋆ 𝓤 H A (‵ (lasts next-pairs.ended (κ, (ν ∷ [], tt)) (args allowance δ) vs) ∷ [])) (⋆ 𝓤 H A (‵ (finally u64 δ (vs .1 .1 .1 .1 .0)) ∷ []))
+  last-next allowance ν δ vs =
+      qed W (‵ (lasts next-pairs.ended (κ, (ν ∷ [], tt)) (args allowance δ) vs) ∷ []) ∵ fsplit ! $ drop ! $ fsplit ! $ drop ! $ fsplit ! $ drop ! $ fsplit ! $ drop ! $ fsplit ! $ fsplit ! $ move ! (1 ∷ []) $ feqL ! (λ len. move ! (1 ∷ []) $ drop ! $ done !)
 
   abbrev args-amount : GName → RefT (List ℕ) × (ℕ × (ℕ × (RefT (List ℕ) × Unit {0})))
   args-amount δ = (f, (room, (count, (array l δ numbers, tt))))
@@ -113,40 +115,31 @@ module _ {M : Type 1} (𝓤 : URA M) (H : Heap 𝓤) (A : Atoms 𝓤) (W : Given
   abbrev to-amount : ℕ → GName → AmountAfter 𝓤 H A mem run .Ghost
   to-amount ν δ = (((κ, (ν ∷ [], tt)), (p, (fullShare, tt)), tt, args-amount δ, (s ∷ [], (vint w64 room ∷ [], (vint w64 count ∷ [], (array-slice l ∷ [], tt))))), tt)
 
-  goes-amount : (ν : ℕ) (δ : GName) → ent 𝓤 (⋆ 𝓤 H A (‵ (flft κ p) ∷ ‵ (flft (ν ∷ []) fullShare) ∷ (‵ (Numbers ν δ) ⊛ ‵ File) ∷ [])) (AmountAfter 𝓤 H A mem run .pre (to-amount ν δ))
+  goes-amount : (ν : ℕ) (δ : GName) → ent 𝓤 (⋆ 𝓤 H A (‵ (flft κ p) ∷ ‵ (flft (ν ∷ []) fullShare) ∷ (‵ (Lent l numbers ν δ) ⊛ ‵ (File κ f)) ∷ [])) (AmountAfter 𝓤 H A mem run .pre (to-amount ν δ))
   goes-amount ν δ =
-      qed W (‵ (flft κ p) ∷ ‵ (flft (ν ∷ []) fullShare) ∷ (‵ (Numbers ν δ) ⊛ ‵ File) ∷ []) ∵ says ! long $ nothing ! $ move ! (2 ∷ 0 ∷ []) $ join ! $ move ! (1 ∷ 0 ∷ []) $ join ! $ frame ! $ split ! $
+      qed W (‵ (flft κ p) ∷ ‵ (flft (ν ∷ []) fullShare) ∷ (‵ (Lent l numbers ν δ) ⊛ ‵ (File κ f)) ∷ []) ∵ says ! long $ nothing ! $ move ! (2 ∷ 0 ∷ []) $ join ! $ move ! (1 ∷ 0 ∷ []) $ join ! $ frame ! $ split ! $
       nothing ! $ move ! (1 ∷ 0 ∷ []) $ fjoin ! $ owned ! u64 (Is u64) (uint-makes 𝓤 H A W w64) count _ (refl, count-fits) $ fjoin ! $ owned ! usize (Is usize) (uint-makes 𝓤 H A W w64) room _ (refl, room-fits) $ fjoin ! $ move ! (1 ∷ 0 ∷ []) $ fjoin ! $ done !
+
+  abbrev LastAmount : Type 0
+  LastAmount = Unit {0} × (Unit {0} × (Unit {0} × (List ℕ × Unit {0})))
+
+  last-amount : (ν : ℕ) (δ : GName) (vs : LastAmount) → ent 𝓤 (⋆ 𝓤 H A (‵ (lasts amount-after.ended (κ, (ν ∷ [], tt)) (args-amount δ) vs) ∷ [])) (⋆ 𝓤 H A (‵ (finally u64 δ (vs .1 .1 .1 .0)) ∷ []))
+  last-amount ν δ vs =
+      qed W (‵ (lasts amount-after.ended (κ, (ν ∷ [], tt)) (args-amount δ) vs) ∷ []) ∵ fsplit ! $ drop ! $ fsplit ! $ drop ! $ fsplit ! $ drop ! $ fsplit ! $ fsplit ! $ move ! (1 ∷ []) $ feqL ! (λ len. move ! (1 ∷ []) $ drop ! $ done !)
 
   module _ {K : Type 0} {i j : Item 𝓤} {Γ : List (Item 𝓤)} {En : Env 𝓤 H} {C : Calls 𝓤 H} {Λ : Loops 𝓤 H} {q : Ends 𝓤 H} {xs : List Operand} {d : Place} {rest : Body} where
     pub calls-next : K → (allowance : ℕ) (fits : allowance < 2 ^ 64) → FmC 𝓤 H (W .laws) C → Triple 𝓤 (C #instalments·next-pairs) (NextPairs 𝓤 H A mem run)
-        → ((ν : ℕ) (δ : GName) → Opds K W (raw (NextPairs 𝓤 H A mem run .pre (to-next allowance ν δ)) ∷ ‵ (flent (ν ∷ []) (Held u64 (length numbers) l 0 δ)) ∷ i ∷ j ∷ ‵ File ∷ Γ) En xs (NextPairs 𝓤 H A mem run .args (to-next allowance ν δ)))
-        → ((w : Val) (r : CallLines) (vs : List ℕ) → PairsReady (f .now) room count allowance vs r → Is E.the-row r (w ∷ []) → Seq K W (i ∷ j ∷ ‵ (row u64 fullShare vs l 0) ∷ ‵ (flft κ p) ∷ ‵ File ∷ Γ) (lands C Λ En d w rest q))
-        → Seq K W (i ∷ j ∷ ‵ (row u64 fullShare numbers l 0) ∷ ‵ (flft κ p) ∷ ‵ File ∷ Γ) (runs C Λ En (seq (call #instalments·next-pairs xs d) rest) q)
-    calls-next t allowance fits fm known os k =
-        move t (4 ∷ []) $ use1 W (‵ File ⊛ ‵ File) (shr-slice-copy 𝓤 H A W (named 0) κ u8 .twice f (s ∷ [])) $ split t $ move t (4 ∷ []) $
-        lends-row t tt u64 (named 1) numbers l 0 (array-room (length numbers) long) (λ ν δ. rewrite t 0 (λ (m : ℕ). ‵ (MutSlice (named 1) (ν ∷ []) u64 .own (array l δ numbers) (sliceVal (l, 0) m ∷ []))) long refl $
-        -- [the numbers, lent; what brings them back; the token ν; file; file; i; j; file's token]
-        move t (0 ∷ 3 ∷ []) $ join t $ move t (6 ∷ 2 ∷ 0 ∷ 1 ∷ 4 ∷ 5 ∷ []) $ use3 W (raw (NextPairs 𝓤 H A mem run .pre (to-next allowance ν δ))) (goes-next allowance fits ν δ) $
-        calls-at t fm (NextPairs 𝓤 H A mem run) known (to-next allowance ν δ) (os ν δ) (λ w.
-        returned t tt _ E.the-row w (‵ (flft κ p) ⊛ (‵ (flft (ν ∷ []) fullShare) ⊛ ‵ ftrue)) (lasts next-pairs.ended (κ, (ν ∷ [], tt)) (args allowance δ)) (λ (r : CallLines) (vs : Unit {0} × (Unit {0} × (Unit {0} × (Unit {0} × (List ℕ × Unit {0}))))). PairsReady (f .now) room count allowance (vs .1 .1 .1 .1 .0) r) (id⊢ 𝓤 _) (λ r vs e is.
-        -- [the last numbers; the tokens; the result; what brings them back; i; j; file]
-        fsplit t $ drop t $ fsplit t $ drop t $ fsplit t $ drop t $ fsplit t $ drop t $ fsplit t $ fsplit t $ move t (1 ∷ []) $ feqL t (λ len. move t (2 ∷ []) $ split t $ move t (1 ∷ []) $ split t $
-        -- [the token ν; true; file's token; the last numbers; true; the result; what brings them back; i; j; file]
-        move t (0 ∷ 6 ∷ 3 ∷ []) $ row-back t tt u64 ν δ (length numbers) (vs .1 .1 .1 .1 .0) l 0 $ move t (1 ∷ 3 ∷ 4 ∷ []) $ drop t $ drop t $ drop t $ move t (2 ∷ 3 ∷ []) $ k w r (vs .1 .1 .1 .1 .0) e is))))
+        → ((ν : ℕ) (δ : GName) → Opds K W (raw (NextPairs 𝓤 H A mem run .pre (to-next allowance ν δ)) ∷ ‵ (flent (ν ∷ []) (Held u64 (length numbers) l 0 δ)) ∷ i ∷ j ∷ ‵ (File κ f) ∷ Γ) En xs (NextPairs 𝓤 H A mem run .args (to-next allowance ν δ)))
+        → ((w : Val) (r : CallLines) (vs : List ℕ) → PairsReady (f .now) room count allowance vs r → Is E.the-row r (w ∷ []) → Seq K W (i ∷ j ∷ ‵ (row u64 fullShare vs l 0) ∷ ‵ (flft κ p) ∷ ‵ (File κ f) ∷ Γ) (lands C Λ En d w rest q))
+        → Seq K W (i ∷ j ∷ ‵ (row u64 fullShare numbers l 0) ∷ ‵ (flft κ p) ∷ ‵ (File κ f) ∷ Γ) (runs C Λ En (seq (call #instalments·next-pairs xs d) rest) q)
+    calls-next t allowance fits fm known =
+        calls-lending 𝓤 H A W κ p f l numbers long t fm (NextPairs 𝓤 H A mem run) known (to-next allowance) (goes-next allowance fits) E.the-row
+        (λ ν δ (vs : LastNext). lasts next-pairs.ended (κ, (ν ∷ [], tt)) (args allowance δ) vs) (λ (vs : LastNext). vs .1 .1 .1 .1 .0) (λ (r : CallLines) (vs : List ℕ). PairsReady (f .now) room count allowance vs r) (λ ν δ w. id⊢ 𝓤 _) (last-next allowance)
 
     pub calls-amount : K → FmC 𝓤 H (W .laws) C → Triple 𝓤 (C #instalments·amount-after) (AmountAfter 𝓤 H A mem run)
-        → ((ν : ℕ) (δ : GName) → Opds K W (raw (AmountAfter 𝓤 H A mem run .pre (to-amount ν δ)) ∷ ‵ (flent (ν ∷ []) (Held u64 (length numbers) l 0 δ)) ∷ i ∷ j ∷ ‵ File ∷ Γ) En xs (AmountAfter 𝓤 H A mem run .args (to-amount ν δ)))
-        → ((w : Val) (r : CallLines) (vs : List ℕ) → AmountReady (f .now) room count vs r → Is E.the-row r (w ∷ []) → Seq K W (i ∷ j ∷ ‵ (row u64 fullShare vs l 0) ∷ ‵ (flft κ p) ∷ ‵ File ∷ Γ) (lands C Λ En d w rest q))
-        → Seq K W (i ∷ j ∷ ‵ (row u64 fullShare numbers l 0) ∷ ‵ (flft κ p) ∷ ‵ File ∷ Γ) (runs C Λ En (seq (call #instalments·amount-after xs d) rest) q)
-    calls-amount t fm known os k =
-        move t (4 ∷ []) $ use1 W (‵ File ⊛ ‵ File) (shr-slice-copy 𝓤 H A W (named 0) κ u8 .twice f (s ∷ [])) $ split t $ move t (4 ∷ []) $
-        lends-row t tt u64 (named 1) numbers l 0 (array-room (length numbers) long) (λ ν δ. rewrite t 0 (λ (m : ℕ). ‵ (MutSlice (named 1) (ν ∷ []) u64 .own (array l δ numbers) (sliceVal (l, 0) m ∷ []))) long refl $
-        -- [the numbers, lent; what brings them back; the token ν; file; file; i; j; file's token]
-        move t (0 ∷ 3 ∷ []) $ join t $ move t (6 ∷ 2 ∷ 0 ∷ 1 ∷ 4 ∷ 5 ∷ []) $ use3 W (raw (AmountAfter 𝓤 H A mem run .pre (to-amount ν δ))) (goes-amount ν δ) $
-        calls-at t fm (AmountAfter 𝓤 H A mem run) known (to-amount ν δ) (os ν δ) (λ w.
-        returned t tt _ E.the-row w (‵ (flft κ p) ⊛ (‵ (flft (ν ∷ []) fullShare) ⊛ ‵ ftrue)) (lasts amount-after.ended (κ, (ν ∷ [], tt)) (args-amount δ)) (λ (r : CallLines) (vs : Unit {0} × (Unit {0} × (Unit {0} × (List ℕ × Unit {0})))). AmountReady (f .now) room count (vs .1 .1 .1 .0) r) (id⊢ 𝓤 _) (λ r vs e is.
-        -- [the last numbers; the tokens; the result; what brings them back; i; j; file]
-        fsplit t $ drop t $ fsplit t $ drop t $ fsplit t $ drop t $ fsplit t $ fsplit t $ move t (1 ∷ []) $ feqL t (λ len. move t (2 ∷ []) $ split t $ move t (1 ∷ []) $ split t $
-        -- [the token ν; true; file's token; the last numbers; true; the result; what brings them back; i; j; file]
-        move t (0 ∷ 6 ∷ 3 ∷ []) $ row-back t tt u64 ν δ (length numbers) (vs .1 .1 .1 .0) l 0 $ move t (1 ∷ 3 ∷ 4 ∷ []) $ drop t $ drop t $ drop t $ move t (2 ∷ 3 ∷ []) $ k w r (vs .1 .1 .1 .0) e is))))
+        → ((ν : ℕ) (δ : GName) → Opds K W (raw (AmountAfter 𝓤 H A mem run .pre (to-amount ν δ)) ∷ ‵ (flent (ν ∷ []) (Held u64 (length numbers) l 0 δ)) ∷ i ∷ j ∷ ‵ (File κ f) ∷ Γ) En xs (AmountAfter 𝓤 H A mem run .args (to-amount ν δ)))
+        → ((w : Val) (r : CallLines) (vs : List ℕ) → AmountReady (f .now) room count vs r → Is E.the-row r (w ∷ []) → Seq K W (i ∷ j ∷ ‵ (row u64 fullShare vs l 0) ∷ ‵ (flft κ p) ∷ ‵ (File κ f) ∷ Γ) (lands C Λ En d w rest q))
+        → Seq K W (i ∷ j ∷ ‵ (row u64 fullShare numbers l 0) ∷ ‵ (flft κ p) ∷ ‵ (File κ f) ∷ Γ) (runs C Λ En (seq (call #instalments·amount-after xs d) rest) q)
+    calls-amount t fm known =
+        calls-lending 𝓤 H A W κ p f l numbers long t fm (AmountAfter 𝓤 H A mem run) known to-amount goes-amount E.the-row
+        (λ ν δ (vs : LastAmount). lasts amount-after.ended (κ, (ν ∷ [], tt)) (args-amount δ) vs) (λ (vs : LastAmount). vs .1 .1 .1 .0) (λ (r : CallLines) (vs : List ℕ). AmountReady (f .now) room count vs r) (λ ν δ w. id⊢ 𝓤 _) last-amount
