@@ -9,8 +9,9 @@ use lib.ListN.{drop, length, take, length-append, length-drop}
 use lib.Seq.{drop-append-add, drop-drop, take-at}
 use Rattle.rules.proofs.AccountCover.{covered-after}
 use Rattle.rules.proofs.Demand3.{pairs-covered, rows-covered}
-use Rattle.rules.proofs.InstalmentAnswers.{FirstPairs, first-length, list-is, pair-goes, so-far-goes, so-far-only}
+use Rattle.rules.proofs.InstalmentAnswers.{FirstPairs, first-length, pair-goes, so-far-goes, so-far-only}
 use Rattle.rules.proofs.InstalmentLaws.{after-same, first-after, first-count, pairs-fewer, total-all, total-same}
+use Rattle.rules.proofs.InstalmentLists.{list-is}
 use Rattle.rules.proofs.LineLaws.{brought, left-quantities, sum-pairs}
 use Rattle.rules.proofs.Most.{within-most-after}
 use Rattle.rules.proofs.Rounds.{made-left}

@@ -65,5 +65,6 @@ pub mod DayTables
 -- Pairing in instalments (document 02 [7]).
 pub mod InstalmentLaws
 pub mod InstalmentAnswers
+pub mod InstalmentLists
 pub mod InstalmentPromises
 pub mod InstalmentTables
