@@ -24,5 +24,6 @@ pub fn refusal_number(why: Refusal) -> u32
         Refusal::SeriesAskedFor => 16,
         Refusal::DayPrices => 17,
         Refusal::NotFirstPairs => 18,
+        Refusal::AboveCount => 19,
     }
 }

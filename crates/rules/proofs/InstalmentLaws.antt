@@ -72,7 +72,7 @@ begins-more (z ∷ l) x d (y ∷ ys) h =
     ap (λ t. sameLine z y && t) (begins-more l x d ys (le-of-suc-le-suc h))
     ∙ sym (and-assoc (sameLine z y) (beginsWith l ys) (sameLine x (getD ys (length l) d)))
 
--- The lines that a list begins with are its first entries, and it has as many at least.
+-- The lines that a list begins with are its first entries, and the other way round.
 pub begins-take : (l ys : List Line) → beginsWith l ys ≡ true → take (length l) ys ≡ l
 unfolding beginsWith
 begins-take [] ys e = refl
@@ -80,9 +80,6 @@ begins-take (x ∷ l) [] e = absurd (false≢true e)
 begins-take (x ∷ l) (y ∷ ys) e =
     let t = both (sameLine x y) (beginsWith l ys) e in
     ap₂ (λ z r. z ∷ r) (sym (same-line x y (t .0))) (begins-take l ys (t .1))
-
-pub begins-length : (l ys : List Line) → beginsWith l ys ≡ true → length l ≤ length ys
-begins-length l ys e = omega (arith, ap length (begins-take l ys e), length-take (length l) ys)
 
 pub take-begins : (l ys : List Line) → take (length l) ys ≡ l → beginsWith l ys ≡ true
 unfolding beginsWith

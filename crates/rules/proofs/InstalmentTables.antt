@@ -20,36 +20,36 @@ use Rattle.rules.specs.declared.Line.{Line}
 use Rattle.rules.specs.declared.PairAnswer.the-variants.{NotPaired, Paired}
 use Rattle.rules.specs.declared.Refusal.the-variants.{FileSize, ListTooShort, NotFirstPairs, PositionRange}
 
-abbrev line : ℕ → ℕ → ℕ → ℕ → ℕ → Line
+abbrev pub line : ℕ → ℕ → ℕ → ℕ → ℕ → Line
 line kind second third fourth fifth =
     record { kind = kind; secondNumber = second; thirdNumber = third; fourthNumber = fourth; fifthNumber = fifth }
 
 -- An entry that is no line.
-abbrev mark : ℕ → Line
+abbrev pub mark : ℕ → Line
 mark n = line n n n n n
 
 -- A list of one entry more than the account has positions, with these two first.
-abbrev listOf : Line → Line → List Line
+abbrev pub listOf : Line → Line → List Line
 listOf x y = x ∷ y ∷ mark 9 ∷ mark 10 ∷ []
 
 -- "pair 0 2 3 0" and "pair 0 1 4 3000", after none, one and both of which the list is this.
-abbrev first : Line
+abbrev pub first : Line
 first = line 1 0 2 3 0
 
-abbrev second : Line
+abbrev pub second : Line
 second = line 1 0 1 4 3_000
 
-abbrev none : List Line
+abbrev pub none : List Line
 none = listOf (mark 7) (mark 8)
 
-abbrev one : List Line
+abbrev pub one : List Line
 one = listOf first (mark 8)
 
-abbrev two : List Line
+abbrev pub two : List Line
 two = listOf first second
 
 -- The largest number of 64 bits.
-abbrev huge : ℕ
+abbrev pub huge : ℕ
 huge = 18_446_744_073_709_551_615
 
 -- Row 0 has 500 ticks × 5 centavos for each of 10 contracts, then of 7, then of 3; the pairs have 0 and 3,000; premiums 300.

@@ -68,3 +68,9 @@ pub mod InstalmentAnswers
 pub mod InstalmentLists
 pub mod InstalmentPromises
 pub mod InstalmentTables
+-- Taking pairs apart (document 02 [8]).
+pub mod ApartLaws
+pub mod ApartAnswers
+pub mod ApartLists
+pub mod ApartPromises
+pub mod ApartTables

@@ -17,3 +17,5 @@ pub mod Day
 pub mod Reais
 -- Document 02 [7].
 pub mod Instalments
+-- Document 02 [8].
+pub mod TakingApart

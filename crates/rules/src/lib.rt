@@ -145,6 +145,7 @@ pub enum Refusal {
     SeriesAskedFor,
     DayPrices,
     NotFirstPairs,
+    AboveCount,
 }
 
 // What the checks of the trailer, of a row, of a day or of the lines in a list find.
@@ -213,6 +214,12 @@ pub enum DayAnswer {
 pub enum PairAnswer {
     Paired(usize),
     NotPaired(Refusal, usize),
+}
+
+// A call that takes pairs apart: how many pair lines are in the list after it, or the refusal with its row.
+pub enum ApartAnswer {
+    TakenApart(usize),
+    NotTakenApart(Refusal, usize),
 }
 
 // A file's margin: how many lines and the total in centavos, or the refusal with its row.
