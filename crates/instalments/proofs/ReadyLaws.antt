@@ -1,13 +1,14 @@
--- What a call works out: a refusal, or lines and a number.
+-- What a call works out: a refusal, or lines and a number; and what taking lines apart answers.
 -- Assumes nothing.
 use Prim.Native.Nat.{ℕ, _+_, _-_, _≤_, _<_}
+use mathlib.Core.Bool.{Bool, true, false}
 use mathlib.Core.List.{List}
 use mathlib.Core.Path.{_≡_, refl, sym, ap, ap₂, subst, _∙_}
 use native.Mathlib.Omega.{arith}
 use lib.ListN.{length}
 use borrow.Author.Tests.{le-ltb, lt-ltb}
 use Rattle.account.proofs.KnownRows.{known}
-use Rattle.instalments.specs.Ready.{AmountReady, PairsReady, Ready, amountFor, pairsFor, pairsOfFile, readyBy}
+use Rattle.instalments.specs.Ready.{AmountReady, PairsReady, Ready, amountFor, apartBy, pairsFor, pairsOfFile, readyBy}
 use Rattle.instalments.specs.declared.CallLines.{CallLines}
 use Rattle.instalments.specs.declared.CallLines.the-variants.{Lines, NoLines}
 use Rattle.lines.specs.LineNumbers.{linesFrom, mostNumbers}
@@ -20,11 +21,12 @@ use Rattle.rules.specs.Instalments.{allPairs, madeOf}
 use Rattle.rules.specs.Lines.{pairLines, premiums, totalAfter}
 use Rattle.rules.specs.Pairs.{pairsAfter}
 use Rattle.rules.specs.Refusals.{fileRead}
+use Rattle.rules.specs.declared.ApartAnswer.the-variants.{NotTakenApart, TakenApart}
 use Rattle.rules.specs.declared.FileRead.{FileRead}
 use Rattle.rules.specs.declared.FileRead.the-variants.{Accepted, Refused}
 use Rattle.rules.specs.declared.Layout.{Layout}
 use Rattle.rules.specs.declared.Refusal.{Refusal}
-use Rattle.rules.specs.declared.Refusal.the-variants.{ListTooShort, NotFirstPairs}
+use Rattle.rules.specs.declared.Refusal.the-variants.{AboveCount, ListTooShort, NotFirstPairs}
 
 -- The three ways by the account.
 module _ (a : Account) (room count last value : ℕ) where
@@ -132,3 +134,14 @@ module _ (b : List ℕ) (room : ℕ) (numbers : List ℕ) (en : length numbers �
         in
         subst (λ (k : ℕ). AmountReady b room count numbers (Lines k (r .first) (r .lines .total + premium))) first
         (ready _ count (r .first) (r .lines .total + premium) h is (omega (arith, first)) (f .first-is) (f .pair-lines))
+
+-- The three ways of a call with lines that takes k of them apart: 19, k taken apart, 18.
+module _ (r : CallLines) (same : Bool) (k first last value : ℕ) (e : r ≡ Lines first last value) where
+  pub apart-above : same ≡ true → first < k → NotTakenApart AboveCount 0 ≡ apartBy r same k
+  apart-above s h = rw (e, s, lt-ltb first k h)
+
+  pub apart-left : same ≡ true → k ≤ first → TakenApart (first - k) ≡ apartBy r same k
+  apart-left s h = rw (e, s, le-ltb first k h)
+
+  pub apart-other : same ≡ false → NotTakenApart NotFirstPairs 0 ≡ apartBy r same k
+  apart-other s = rw (e, s)

@@ -1,5 +1,5 @@
 -- What a call works out before its lines are compared with the caller's list: everything but whether the list begins with them.
-use Prim.Native.Nat.{ℕ, _+_, _≤_}
+use Prim.Native.Nat.{ℕ, _+_, _-_, _≤_}
 use mathlib.Core.Bool.{Bool, cond}
 use mathlib.Core.List.{List, []}
 use mathlib.Core.Path.{_≡_}
@@ -12,10 +12,12 @@ use Rattle.rules.specs.File.{Account, accountOf}
 use Rattle.rules.specs.Instalments.{allPairs, firstPairs, madeOf}
 use Rattle.rules.specs.Lines.{mostLines, totalAfter}
 use Rattle.rules.specs.Refusals.{fileRead}
+use Rattle.rules.specs.declared.ApartAnswer.{ApartAnswer}
+use Rattle.rules.specs.declared.ApartAnswer.the-variants.{NotTakenApart, TakenApart}
 use Rattle.rules.specs.declared.FileRead.{FileRead}
 use Rattle.rules.specs.declared.FileRead.the-variants.{Accepted, Refused}
 use Rattle.rules.specs.declared.Line.{Line}
-use Rattle.rules.specs.declared.Refusal.the-variants.{ListTooShort, NotFirstPairs}
+use Rattle.rules.specs.declared.Refusal.the-variants.{AboveCount, ListTooShort, NotFirstPairs}
 
 -- With how many lines the list must begin.
 abbrev pub start : CallLines → ℕ
@@ -31,6 +33,18 @@ reach (NoLines w i) = 0
 abbrev pub end : CallLines → Bool → ℕ
 end (Lines first last value) same = cond same last first
 end (NoLines w i) same = 0
+
+-- Whether k of the lines with which the list must begin can be taken apart: not where it begins with others (18), nor where
+-- they are fewer than k (19).
+abbrev pub apartBy : CallLines → Bool → ℕ → ApartAnswer
+apartBy (Lines first last value) same k =
+    cond same (cond (ltb first k) (NotTakenApart AboveCount 0) (TakenApart (first - k))) (NotTakenApart NotFirstPairs 0)
+apartBy (NoLines w i) same k = NotTakenApart w i
+
+-- How many of n lines stay: all on a refusal.
+abbrev pub keptOf : ApartAnswer → ℕ → ℕ
+keptOf (TakenApart left) n = left
+keptOf (NotTakenApart w i) n = n
 
 -- By the account: 12, then 18 where there are fewer pairs than lines in the list.
 abbrev pub readyBy : Account → ℕ → ℕ → ℕ → ℕ → CallLines

@@ -1,14 +1,16 @@
-// Pairing in instalments (document 02, request 7): what a call works out before its lines are compared with the caller's list.
+// Pairing in instalments (document 02, request 7) and taking pairs apart (request 8): what a call works out before its lines are
+// compared with the caller's list, and what follows from the comparison.
 use account::reader::read_file;
 use lines_and_total::listing::list_lines;
 use lines_and_total::listing::list_pairs;
 use lines_and_total::premium::premium_sum;
+use rules::ApartAnswer;
 use rules::FileRead;
 use rules::Layout;
 use rules::Refusal;
 ghost use lib.ListN.{length};
 ghost use mathlib.Core.Path.{_≡_};
-ghost use Rattle.instalments.specs.Ready.{AmountReady, PairsReady, end, start};
+ghost use Rattle.instalments.specs.Ready.{AmountReady, PairsReady, apartBy, end, keptOf, start};
 ghost use Rattle.lines.specs.LineNumbers.{mostNumbers};
 ghost use Rattle.rules.specs.Refusals.{fileRead};
 ghost use Rattle.rules.specs.declared.FileRead.the-variants.{Accepted};
@@ -121,5 +123,36 @@ pub fn lines_after(ready: CallLines, same: bool) -> usize
             first
         }
         CallLines::NoLines(_, _) => 0,
+    }
+}
+
+// What taking apart the latest `k` of these lines answers: 18 where the list begins with others, then 19 where there are
+// fewer.
+pub fn taken_apart(ready: CallLines, same: bool, k: u64) -> ApartAnswer
+    ensures { λ r. ⌜ r ≡ apartBy ready same k ⌝ }
+{
+    match ready {
+        CallLines::Lines(count, _, _) => {
+            if !same {
+                return ApartAnswer::NotTakenApart(Refusal::NotFirstPairs, 0);
+            }
+            let there = count as u64;
+            if there < k {
+                return ApartAnswer::NotTakenApart(Refusal::AboveCount, 0);
+            }
+            let left = there - k;
+            ApartAnswer::TakenApart(left as usize)
+        }
+        CallLines::NoLines(why, row) => ApartAnswer::NotTakenApart(why, row),
+    }
+}
+
+// How many of `n` lines stay: all on a refusal.
+pub fn lines_kept(answer: ApartAnswer, n: usize) -> usize
+    ensures { λ kept. ⌜ kept ≡ keptOf answer n ⌝ }
+{
+    match answer {
+        ApartAnswer::TakenApart(left) => left,
+        ApartAnswer::NotTakenApart(_, _) => n,
     }
 }

@@ -22,14 +22,11 @@ use denote.Memory.{cellAt}
 use denote.Index.{row, place}
 use denote.Struct.Laws as LL
 use Rattle.lines.specs.LineNumbers.{numbersPerLine}
+use Rattle.rules.specs.TakingApart.{zeroEntry}
 use Rattle.rules.specs.declared.Line.{Line}
 use Rattle.rules.proofs.Line as T
 use Rattle.rules.proofs.Line.Laws as T′
 use Rattle.lent.proofs.Elements.{elem-is, look-elem, store-elem}
-
--- All zeros: what `getD` gives outside a list.
-abbrev pub noLine : Line
-noLine = record { kind = 0; secondNumber = 0; thirdNumber = 0; fourthNumber = 0; fifthNumber = 0 }
 
 -- A line's machine value.
 abbrev pub lineVal : Line → Val
@@ -48,12 +45,12 @@ module _ {M : Type 1} (𝓤 : URA M) (H : Heap 𝓤) (A : Atoms 𝓤) (W : Given
   line-typed r w is = LL.lawful T.the-type T′.the-laws 𝓤 H A W .typed r _ is .0
 
 module _ {M : Type 1} {𝓤 : URA M} {H : Heap 𝓤} {A : Atoms 𝓤} {K : Type 0} {W : Given 𝓤 H A} {Γ : List (Item 𝓤)} where
-  pub line-is : K → (n : ℕ) (q : Share) (ys : List Line) (b o i : ℕ) {G : Goal 𝓤 H} → nth 𝓤 H A n Γ ≡ ‵ (row T.the-row q ys b o) → i < length ys → (Is T.the-row (getD ys i noLine) (lineVal (getD ys i noLine) ∷ []) → Seq K W Γ G) → Seq K W Γ G
-  line-is t n q ys b o i = elem-is t n T.the-row lineVal (LL.tells T.the-type T′.the-laws) q ys b o i noLine
+  pub line-is : K → (n : ℕ) (q : Share) (ys : List Line) (b o i : ℕ) {G : Goal 𝓤 H} → nth 𝓤 H A n Γ ≡ ‵ (row T.the-row q ys b o) → i < length ys → (Is T.the-row (getD ys i zeroEntry) (lineVal (getD ys i zeroEntry) ∷ []) → Seq K W Γ G) → Seq K W Γ G
+  line-is t n q ys b o i = elem-is t n T.the-row lineVal (LL.tells T.the-type T′.the-laws) q ys b o i zeroEntry
 
   pub look-line : K → (n : ℕ) (q : Share) (ys : List Line) (b o i : ℕ) {τ : Ty} → nth 𝓤 H A n Γ ≡ ‵ (row T.the-row q ys b o) → i < length ys
-      → ((u : Val) → cellAt q (T.the-row .mir) (u ∷ []) b (place 40 o i) ≡ fat q (rawTy τ) b (place 40 o i) u) → Reads K W Γ τ b (place 40 o i) (lineVal (getD ys i noLine))
-  look-line t n q ys b o i = look-elem t n T.the-row lineVal (LL.tells T.the-type T′.the-laws) q ys b o i noLine
+      → ((u : Val) → cellAt q (T.the-row .mir) (u ∷ []) b (place 40 o i) ≡ fat q (rawTy τ) b (place 40 o i) u) → Reads K W Γ τ b (place 40 o i) (lineVal (getD ys i zeroEntry))
+  look-line t n q ys b o i = look-elem t n T.the-row lineVal (LL.tells T.the-type T′.the-laws) q ys b o i zeroEntry
 
   pub store-line : K → (n : ℕ) (ys : List Line) (b o i : ℕ) (y : Line) {τ : Ty} {w : Val} → nth 𝓤 H A n Γ ≡ ‵ (row T.the-row fullShare ys b o) → i < length ys
       → ((u : Val) → cellAt fullShare (T.the-row .mir) (u ∷ []) b (place 40 o i) ≡ fat fullShare (rawTy τ) b (place 40 o i) u) → Is T.the-row y (w ∷ []) → Holds (hasTy τ w) × WT w

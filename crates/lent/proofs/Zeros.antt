@@ -2,10 +2,10 @@
 -- check computes through its elements. Assumes `Given`.
 --     init-zeros       the array is stored in a local, which is its elements side by side from then on: what is lent
 --     rows-room        once they are back the local is room, as the return asks
+--     zeros-get        each of its numbers is 0
 --     array, array-slice, array-room   the array while it is lent, the slice that lends it, and that so many numbers can be lent
---     zeros-line       its lines are all zeros. It waits for request 8, which writes such lines
 use mathlib.Core.Path.{_≡_, refl, subst, sym}
-use Prim.Native.Nat.{ℕ, zero, suc, _+_, _*_, _/_, _%_}
+use Prim.Native.Nat.{ℕ, zero, suc}
 use mathlib.Core.List.{List, [], _∷_}
 use lib.Dec.{lit<}
 use lib.ListN.{getD, length, replicate, length-replicate}
@@ -31,8 +31,7 @@ use denote.Index.{row}
 use denote.Ref.{RefT}
 use denote.Slice.{Room, sliceVal}
 use borrow.Table.OneValue.{part-in, part-out}
-use Rattle.lines.specs.LineNumbers.{lineFrom, mostNumbers, numbersPerLine}
-use Rattle.lent.proofs.LineSteps.{noLine}
+use Rattle.lines.specs.LineNumbers.{mostNumbers}
 
 pub zeros : List ℕ
 zeros = replicate mostNumbers 0
@@ -40,6 +39,15 @@ zeros = replicate mostNumbers 0
 pub zeros-length : length zeros ≡ mostNumbers
 unfolding zeros
 zeros-length = length-replicate {A = ℕ} mostNumbers 0
+
+pub zeros-get : (i : ℕ) → _≡_ {A = ℕ} (getD zeros i 0) 0
+unfolding zeros
+zeros-get i = none mostNumbers i
+  where
+    none : (n j : ℕ) → _≡_ {A = ℕ} (getD (replicate n 0) j 0) 0
+    none zero j = refl
+    none (suc n) zero = refl
+    none (suc n) (suc j) = none n j
 
 pub array-room : (n : ℕ) → n ≡ mostNumbers → Room u64 n
 array-room n e = subst (Room u64) (sym e) (lit< tt, lit< tt)
@@ -104,14 +112,3 @@ init-zeros {M} {𝓤} {H} {A} {K} {W} {Γ} t n {b} e = record {
 
     known : ent 𝓤 (⋆ 𝓤 H A Γ) (fact 𝓤 (Is (Array u64 mostNumbers) zeros (zeros-val ∷ [])))
     known = via 𝓤 (emp 𝓤) (via 𝓤 (sep 𝓤 (emp 𝓤) (⋆ 𝓤 H A Γ)) (emp∗ 𝓤 (⋆ 𝓤 H A Γ)) (fst∗ 𝓤 (emp 𝓤) (⋆ 𝓤 H A Γ))) (via 𝓤 (sem 𝓤 H A (Array u64 mostNumbers .own zeros (zeros-val ∷ []))) own (shows 𝓤 H A (Array u64 mostNumbers) zeros (zeros-val ∷ [])))
-
-pub zeros-line : (i : ℕ) → lineFrom zeros i ≡ noLine
-unfolding zeros
-zeros-line i =
-    let head = none mostNumbers (numbersPerLine * i) in
-    λ t. record { kind = head t % 4; secondNumber = head t / 4 % 256; thirdNumber = head t / 1_024; fourthNumber = none mostNumbers (numbersPerLine * i + 1) t; fifthNumber = none mostNumbers (numbersPerLine * i + 2) t }
-  where
-    none : (n j : ℕ) → _≡_ {A = ℕ} (getD (replicate n 0) j 0) 0
-    none zero j = refl
-    none (suc n) zero = refl
-    none (suc n) (suc j) = none n j

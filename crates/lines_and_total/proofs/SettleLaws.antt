@@ -27,7 +27,7 @@ use Rattle.rules.proofs.Counts.{bound, openRows}
 use Rattle.rules.proofs.LineLaws.{length-pairLines, line-count, lines-are, sum-pairs}
 use Rattle.rules.proofs.Rounds.{left-falls}
 use Rattle.rules.proofs.Sums.{sumOver-append, sumTo-same}
-use Rattle.rules.specs.File.{Account, accountOf}
+use Rattle.rules.specs.File.{accountOf}
 use Rattle.rules.specs.Lines.{leftLines, lineAmount, lines, linesAfter, pairLines, premiumAnswer, premiums, premiumsOf, sumOver, total}
 use Rattle.rules.specs.Pairs.{available, bookOf, contractsAfter, pairsAfter}
 use Rattle.rules.specs.Refusals.{fileRead}

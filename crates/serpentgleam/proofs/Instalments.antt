@@ -17,12 +17,12 @@ use Rattle.instalments.specs.declared.CallLines.{CallLines}
 use Rattle.instalments.specs.declared.CallLines.the-variants.{Lines, NoLines}
 use Rattle.lent.proofs.EntryLaws.{written-none}
 use Rattle.lent.specs.Entries.{entriesWritten}
-use Rattle.lines.proofs.LinesHeld.{lines-count, take-lines}
+use Rattle.lines.proofs.LinesHeld.{take-lines}
 use Rattle.lines.specs.LineNumbers.{linesFrom, numbersPerLine}
 use Rattle.rules.proofs.InstalmentAnswers.{first-length, first-more}
 use Rattle.rules.proofs.InstalmentLaws.{amount-read, fault-18, fault-none, fault-short, list-read, pair-read}
 use Rattle.rules.specs.File.{Account, accountOf}
-use Rattle.rules.specs.Instalments.{allPairs, amountForList, amountSoFar, amountUnless, beginsWith, firstPairs, instalmentFault, listFor, listPaired, madeOf, nextPairs, notFirstPairs, pairAnswer, pairForFile, pairedUnless}
+use Rattle.rules.specs.Instalments.{allPairs, amountSoFar, amountUnless, beginsWith, firstPairs, instalmentFault, listFor, listPaired, madeOf, nextPairs, notFirstPairs, pairAnswer, pairedUnless}
 use Rattle.rules.specs.Lines.{totalAfter}
 use Rattle.rules.specs.Refusals.{fileRead}
 use Rattle.rules.specs.declared.Fault.the-variants.{Clean, Found}
@@ -30,7 +30,6 @@ use Rattle.rules.specs.declared.FileRead.{FileRead}
 use Rattle.rules.specs.declared.FileRead.the-variants.{Accepted, Refused}
 use Rattle.rules.specs.declared.Layout.{Layout}
 use Rattle.rules.specs.declared.Line.{Line}
-use Rattle.rules.specs.declared.PairAnswer.the-variants.{NotPaired, Paired}
 use Rattle.rules.specs.declared.Refusal.{Refusal}
 use Rattle.rules.specs.declared.Refusal.the-variants.{ListTooShort, NotFirstPairs}
 use Rattle.serpentgleam.specs.InstalmentNumbers.{pairNumbers, toldNumbers}
@@ -62,10 +61,10 @@ first-lines a numbers count made h lines =
     ∙ take-at (firstPairs a count) (nextPairs a count made) count (omega (arith, first-length a count))
 
 -- An accepted file, by the account: the refusal that a call has worked out, or its lines and whether they stand in the list.
-abbrev Refusing : Account → List Line → ℕ → CallLines → Type 0
+abbrev pub Refusing : Account → List Line → ℕ → CallLines → Type 0
 Refusing a ys count r = (w : Refusal) × (r ≡ NoLines w 0) × (instalmentFault a ys count ≡ Found w)
 
-abbrev Comparing : Account → List Line → ℕ → ℕ → ℕ → CallLines → Bool → Type 0
+abbrev pub Comparing : Account → List Line → ℕ → ℕ → ℕ → CallLines → Bool → Type 0
 Comparing a ys count made value r same =
     (r ≡ Lines count (count + made) value) × (count ≤ length (allPairs a)) × (instalmentFault a ys count ≡ cond same Clean (Found NotFirstPairs))
 
@@ -157,7 +156,7 @@ module _ (b : List ℕ) (ys : List Line) (count : ℕ) (numbers : List ℕ) (r :
       few : count ≤ length (allPairs a) → count + madeOf a count allowance ≤ length (allPairs a)
       few h = omega arith
 
-      found : Refusing a ys count r ⊎ Comparing a ys count (madeOf a count allowance) (madeOf a count allowance) r same
+      pub found : Refusing a ys count r ⊎ Comparing a ys count (madeOf a count allowance) (madeOf a count allowance) r same
       found =
           by-account a ys count (madeOf a count allowance) (madeOf a count allowance) numbers r
           (ready .ready-is ∙ ap (pairsFor b (length ys) count allowance) e) few lines same alike

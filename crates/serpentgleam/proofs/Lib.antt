@@ -3,7 +3,10 @@ pub mod Calls
 pub mod Settling
 pub mod InstalmentCalls
 pub mod Instalments
+pub mod ApartCalls
+pub mod Apart
 -- What a C program is told.
 pub mod AnswerNumbers
 pub mod FactorAnswers
 pub mod InstalmentTold
+pub mod ApartTold

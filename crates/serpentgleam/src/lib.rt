@@ -7,7 +7,9 @@ use instalments::CallLines;
 use instalments::amount_after;
 use instalments::lines_after;
 use instalments::lines_compared;
+use instalments::lines_kept;
 use instalments::next_pairs;
+use instalments::taken_apart;
 use lent::agree;
 use lent::write_entries;
 use lines::MOST_NUMBERS;
@@ -18,6 +20,7 @@ use position::amount::amount_for_row;
 use position::answer::signed;
 use refusals::refusal_number;
 use rules::AmountAnswer;
+use rules::ApartAnswer;
 use rules::Day;
 use rules::DayAnswer;
 use rules::Line;
@@ -29,9 +32,10 @@ ghost use Rattle.rules.specs.Day.{dayAnswer, fileAfter};
 ghost use Rattle.rules.specs.Instalments.{amountSoFar, listPaired, pairAnswer};
 ghost use Rattle.rules.specs.Lines.{listAfter, marginAnswer, premiumAnswer};
 ghost use Rattle.rules.specs.OnePosition.{amountAnswer, signedAnswer};
+ghost use Rattle.rules.specs.TakingApart.{apartAnswer, listApart};
 ghost use Rattle.serpentgleam.specs.DayNumbers.{dayNumbers, dayOf};
 ghost use Rattle.serpentgleam.specs.FactorNumbers.{FactorsTold, factorNumbers};
-ghost use Rattle.serpentgleam.specs.InstalmentNumbers.{pairNumbers, toldNumbers};
+ghost use Rattle.serpentgleam.specs.InstalmentNumbers.{apartNumbers, pairNumbers, toldNumbers};
 ghost use Rattle.serpentgleam.specs.MarginNumbers.{answerNumbers, marginNumbers};
 
 // A file's margin as numbers, the header's `serpentgleam_result`: 0, 0, the line count and the total in centavos; or the
@@ -64,8 +68,8 @@ fn numbers_of(answer: MarginAnswer) -> Margin
     }
 }
 
-// A number asked of a file, how many pairs a call made, or a day applied to it, the header's `serpentgleam_answer`: 0, 0 and
-// the number, 0 for a day; or the refusal's number, its row and 0.
+// A number asked of a file, how many pairs a call made or left, or a day applied to it, the header's `serpentgleam_answer`: 0,
+// 0 and the number, 0 for a day; or the refusal's number, its row and 0.
 #[repr(C)]
 pub struct Answer {
     pub refusal: u64,
@@ -127,6 +131,24 @@ fn told(ready: CallLines, same: bool) -> Answer
             }
         }
         CallLines::NoLines(why, row) => Answer {
+            refusal: refusal_number(why) as u64,
+            row: row as u64,
+            value: 0,
+        },
+    }
+}
+
+// The numbers of a call that takes pairs apart.
+fn apart_numbers(answer: ApartAnswer) -> Answer
+    ensures { λ r. ⌜ r ≡ apartNumbers answer ⌝ }
+{
+    match answer {
+        ApartAnswer::TakenApart(left) => Answer {
+            refusal: 0,
+            row: 0,
+            value: left as u64,
+        },
+        ApartAnswer::NotTakenApart(why, row) => Answer {
             refusal: refusal_number(why) as u64,
             row: row as u64,
             value: 0,
@@ -257,4 +279,28 @@ pub extern "C" fn serpentgleam_amount_so_far(file: &[u8], lines: &[Line], count:
     let first = lines_compared(ready);
     let same = agree(lines, first, &numbers);
     told(ready, same)
+}
+
+// The latest `k` of the `count` pair lines that the caller's list begins with are taken apart: how many are left, and zeros in
+// the list in the place of those removed; or the refusal, on which the list keeps its content. Any bytes, any list and any
+// numbers may be handed over.
+#[no_mangle]
+pub extern "C" fn serpentgleam_take_apart(
+    file: &[u8],
+    lines: &mut [Line],
+    count: u64,
+    k: u64,
+) -> Answer
+    ensures numbers { λ r. ⌜ r ≡ apartNumbers (apartAnswer (now (file .entry)) (now (lines .entry)) count k) ⌝ }
+    ensures list { λ _. ⌜ now (lines .exit) ≡ listApart (now (file .entry)) (now (lines .entry)) count k ⌝ }
+{
+    let mut numbers = [0u64; MOST_NUMBERS];
+    let ready = next_pairs(file, lines.len(), count, 0, &mut numbers);
+    let n = lines_compared(ready);
+    let same = agree(lines, n, &numbers);
+    let answer = taken_apart(ready, same, k);
+    let kept = lines_kept(answer, n);
+    let zeros = [0u64; MOST_NUMBERS];
+    write_entries(lines, kept, n, &zeros);
+    apart_numbers(answer)
 }

@@ -3,13 +3,14 @@
 use Rattle.lent.proofs.Walk.{_≡_, refl, sym, _∙_, ap, subst, Bool, true, false, not, _&&_, ℕ, _<_, _≤_, _^_, _*_, _+_, zero-le, le-antisymm, add-one-le, add-one-dec, arith, [], _∷_, List, Holds, ltb, ltb→lt, nltb→le, lit<, length, getD, URA, fullShare, Ty, named, imm, w64, tyPtr, tyInt, tyBool, tyRef, Val, vint, vbool, vptr, SProp, ent, sep, id⊢, Lft, Share, Fml, ftrue, fat, froom, fdies, flft, fobor, Memory, Routine, Heap, Out, Env, Calls, Loops, Wp, WpFn, Tables, afterSeq, afterBlock, atReturn, Atoms, sem, Fun, givenOf, tables, Given, Item, Sq, runs, anyQ, atRet, ‵, raw, _⊛_, ⋆, _$_, _∵_, !, qed, by, move, keep, use1, use2, split, join, rewrite, fsplit, fjoin, feqI, suffices, frame, done, drop, look, init, store, forget, stop, hop, fld, from, load, lit, of-opd, bin, and-then, no-more, assigns-last, first, blocks, stays, leaves-loop, exec, loops, again, Below, returns, enter, alloc1, alloc0, params1, pass1, pass0, free1, free0, land, true-lit, whole, sub, look-in, fmOf, WpFn-mono, owns, Is, shows, pointee, shares, uint-makes, uint-vals, uint-tells, bool-lawful, usize, u64, bool, RefT, sliceTy, sliceVal, ShrSlice, Room, slice-vals, shr-slice-tells, shr-slice-copy, row, place-is, looks-slice, shuts-slice, owned, nothing, only, onEntry, Meets, tripleOf, Contract, Triple, calls-at, lasts, entered, cited, says, needs, Stays, stay-none, stay-none-slice, walkOf, goes-none, goes-none-slice, Walks, ends-at, walked, walk-meets, yes, plain, arr-parts, afterTurn, tablesOf}
 use denote.Struct.Laws as LL
 use Rattle.rules.specs.Instalments.{beginsWith, sameLine}
+use Rattle.rules.specs.TakingApart.{zeroEntry}
 use Rattle.rules.specs.declared.Line.{Line}
 use Rattle.lines.specs.LineNumbers.{lineFrom, linesFrom, numbersPerLine}
 use Rattle.lent.proofs.Counting.{Nearer, Nearer-wf}
 use Rattle.lent.proofs.Calling.{returned}
 use Rattle.lent.proofs.EntryLaws.{alike-more, alike-none}
 use Rattle.lent.proofs.Locals.{fills, free-cell, local}
-use Rattle.lent.proofs.LineSteps.{lineVal, line-is, line-there, line-typed, look-line, noLine, offset-fits}
+use Rattle.lent.proofs.LineSteps.{lineVal, line-is, line-there, line-typed, look-line, offset-fits}
 use Rattle.rules.proofs.Line as T
 use Rattle.rules.proofs.Line.Laws as T′
 use Rattle.lines.proofs.same_too as same-too
@@ -73,7 +74,7 @@ module _ {M : Type 1} (𝓤 : URA M) (H : Heap 𝓤) (A : Atoms 𝓤) (W : Given
 
   -- entry i of the list
   abbrev line : ℕ → Line
-  line i = getD ys i noLine
+  line i = getD ys i zeroEntry
 
   exits : (i : ℕ) → i ≡ n → ent 𝓤 (⋆ 𝓤 H A (‵ (flft κ q) ∷ Token′ ∷ ‵ Numbers ∷ ‵ Lines ∷ [])) (Post (vbool (so-far i)))
   exits i e =
@@ -150,7 +151,7 @@ module _ {M : Type 1} (𝓤 : URA M) (H : Heap 𝓤) (A : Atoms 𝓤) (W : Given
         calls-at ! (fmOf 𝓤 H (W .laws) 𝓣) (SameToo 𝓤 H A mem run) known (to (i .0)) (and-then ! (local ! 15 refl) (and-then ! (local ! 17 refl) (and-then ! (local ! 13 refl) (and-then ! (local ! 5 refl) (no-more !))))) (λ w.
         returned ! tt _ bool w Token′ (lasts same-too.ended (κ′, tt) (told (i .0))) (λ (r : Bool) (_ : Unit {0} × (Unit {0} × (Unit {0} × (Unit {0} × Unit {0})))). r ≡ (so-far (i .0) && sameLine (lineFrom numbers (i .0)) (line (i .0)))) (id⊢ 𝓤 _) (λ r _ same is-r.
         drop ! $ move ! (1 ∷ []) $ drop ! $ land ! (from ! (stop !)) (store ! 15 refl (bool-lawful 𝓤 H A W .typed r _ is-r .0)) $
-        rewrite ! 15 (λ (z : Val). ‵ (fat fullShare tyBool l₄ 0 z)) (ap only is-r) refl $ rewrite ! 15 (λ (t : Bool). ‵ (fat fullShare tyBool l₄ 0 (vbool t))) (same ∙ alike-more numbers ys (i .0) noLine there) refl $
+        rewrite ! 15 (λ (z : Val). ‵ (fat fullShare tyBool l₄ 0 z)) (ap only is-r) refl $ rewrite ! 15 (λ (t : Bool). ‵ (fat fullShare tyBool l₄ 0 (vbool t))) (same ∙ alike-more numbers ys (i .0) zeroEntry there) refl $
         assigns-last ! (bin ! (local ! 13 refl) (lit ! tt) (record { fits = next-fits })) (from ! (stop !)) (store ! 13 refl (tt, record { fits = next-fits })) $
         forget ! 5 refl $ forget ! 7 refl $ forget ! 9 refl $ forget ! 11 refl $ again ! Near At i next (add-one-dec n (i .0) less))))
       where
