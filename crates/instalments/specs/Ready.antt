@@ -1,4 +1,5 @@
--- What a call works out before its lines are compared with the caller's list: everything but whether the list begins with them.
+-- What a call works out before its lines are compared with the caller's list: everything but whether the list begins with them;
+-- and what follows from the comparison.
 use Prim.Native.Nat.{ℕ, _+_, _-_, _≤_}
 use mathlib.Core.Bool.{Bool, cond}
 use mathlib.Core.List.{List, []}
@@ -34,8 +35,8 @@ abbrev pub end : CallLines → Bool → ℕ
 end (Lines first last value) same = cond same last first
 end (NoLines w i) same = 0
 
--- Whether k of the lines with which the list must begin can be taken apart: not where it begins with others (18), nor where
--- they are fewer than k (19).
+-- What is answered where k of the lines with which the list must begin are to be taken apart: 18 where it begins with others,
+-- then 19 where they are fewer than k.
 abbrev pub apartBy : CallLines → Bool → ℕ → ApartAnswer
 apartBy (Lines first last value) same k =
     cond same (cond (ltb first k) (NotTakenApart AboveCount 0) (TakenApart (first - k))) (NotTakenApart NotFirstPairs 0)

@@ -1,5 +1,5 @@
-// Pairing in instalments (document 02, request 7) and taking pairs apart (request 8): what a call works out before its lines are
-// compared with the caller's list, and what follows from the comparison.
+// Pairing in instalments (document 02, request 7) and taking pairs apart (request 8): what a call works out before its lines
+// are compared with the caller's list, and what follows from the comparison.
 use account::reader::read_file;
 use lines_and_total::listing::list_lines;
 use lines_and_total::listing::list_pairs;
@@ -16,7 +16,7 @@ ghost use Rattle.rules.specs.Refusals.{fileRead};
 ghost use Rattle.rules.specs.declared.FileRead.the-variants.{Accepted};
 
 // With how many lines the list must begin, with how many it begins after the call, and the number to be answered; or the
-// refusal.
+// refusal. Taking apart asks for no further pairs, and of the three numbers the first alone counts.
 pub enum CallLines {
     Lines(usize, usize, u64),
     NoLines(Refusal, usize),

@@ -15,8 +15,8 @@ pub mod Zeros
 pub mod Literal
 pub mod Counting
 pub mod Several
--- Laws of the entries that are compared and written, of zeros written too; the calls of the functions to which the numbers are lent, and of those
--- that compare and write the entries.
+-- Laws of the entries that are compared and written, zeros too; the calls of the functions to which the numbers are lent, and
+-- of those that compare and write the entries.
 pub mod EntryLaws
 pub mod ZeroLines
 pub mod NumbersCall

@@ -1,6 +1,6 @@
 -- `Elements.antt`'s steps for a list of lines, and what a walk needs of that type. Assumes `Given`.
 --     store-line       line i of the list that is entry n is stored in place
---     line-is, look-line       what is known of it, and it is read in place
+--     line-is, look-line       what is known of it, and it is read in place; outside a list `getD` gives `zeroEntry`
 use mathlib.Core.Path.{_≡_}
 use Prim.Native.Nat.{ℕ, _<_, _≤_, _+_, _*_, _^_}
 use mathlib.Core.List.{List, [], _∷_}

@@ -3,10 +3,9 @@
 use Prim.Native.Nat.{ℕ, zero, suc, _+_, _-_, _*_, _≤_}
 use mathlib.Core.List.{List, [], _∷_, _++_, append-assoc}
 use mathlib.Core.Path.{_≡_, refl, sym, ap, ap₂, _∙_}
-use native.Mathlib.Nat.{suc-add, zero-add}
 use native.Mathlib.Numerals.{add-one}
 use native.Mathlib.Omega.{arith}
-use lib.ListN.{drop, length-replicate, replicate, take}
+use lib.ListN.{drop, length-replicate, replicate-append-replicate, take}
 use lib.Seq.{drop-at}
 use Rattle.lent.proofs.Zeros.{zeros, zeros-get}
 use Rattle.lent.specs.Entries.{entriesWritten}
@@ -17,16 +16,12 @@ use Rattle.rules.specs.declared.Line.{Line}
 zero-line : (i : ℕ) → lineFrom zeros i ≡ zeroEntry
 zero-line i = rw (zeros-get (numbersPerLine * i), zeros-get (numbersPerLine * i + 1), zeros-get (numbersPerLine * i + 2))
 
-replicate-add : {A : Type 0} (m n : ℕ) (x : A) → replicate (m + n) x ≡ replicate m x ++ replicate n x
-replicate-add zero n x = ap (λ (k : ℕ). replicate k x) (zero-add n)
-replicate-add (suc m) n x = ap (λ (k : ℕ). replicate k x) (suc-add m n) ∙ ap (λ l. x ∷ l) (replicate-add m n x)
-
 zero-lines : (n : ℕ) → linesFrom zeros n ≡ zeroEntries n
 unfolding linesFrom
 zero-lines zero = refl
 zero-lines (suc n) =
     ap₂ (λ (l : List Line) (x : Line). l ++ (x ∷ [])) (zero-lines n) (zero-line n)
-    ∙ sym (replicate-add n 1 zeroEntry)
+    ∙ replicate-append-replicate n 1 zeroEntry
     ∙ ap zeroEntries (add-one n)
 
 -- Lines m to n - 1 of the zeros written into a list.
@@ -36,7 +31,7 @@ unfolding entriesWritten
 zeros-written m n ys h =
     let sum : n ≡ m + (n - m) = omega (arith, h) in
     let parts : linesFrom zeros n ≡ zeroEntries m ++ zeroEntries (n - m) =
-    zero-lines n ∙ ap zeroEntries sum ∙ replicate-add m (n - m) zeroEntry in
+    zero-lines n ∙ ap zeroEntries sum ∙ sym (replicate-append-replicate m (n - m) zeroEntry) in
     ap (λ (l : List Line). take m ys ++ drop m (l ++ drop n ys)) parts
     ∙ ap (λ (l : List Line). take m ys ++ drop m l) (append-assoc (zeroEntries m) (zeroEntries (n - m)) (drop n ys))
     ∙ ap (λ (l : List Line). take m ys ++ l) (drop-at (zeroEntries m) _ m (length-replicate m zeroEntry))

@@ -87,8 +87,8 @@ module _ (b : List ℕ) (out : List Line) (count allowance : ℕ) where
 
 -- The answers for an accepted file.
 module _ (b : List ℕ) (a : Account) (e : meaning b ≡ accepted a) (out : List Line) (count : ℕ) where
-  -- A list of at least p entries in which the first pairs stand, and no more to be taken apart than there are: "the count
-  -- falls by k and is the answer".
+  -- A list of at least p entries in which the first pairs stand, and no more to be taken apart than there are: "The count
+  -- falls by k", and it is the answer.
   pub apart-goes : a .positions ≤ length out → FirstPairs a out count → (k : ℕ) → k ≤ count
       → apartAnswer b out count k ≡ TakenApart (count - k)
   apart-goes long f = paired-apart b out count 0 (madeOf a count 0) (pair-goes b a e out count long f 0)
@@ -147,7 +147,7 @@ module _ (b : List ℕ) (out : List Line) (count k : ℕ) where
       let told = apart-told left q 0 in
       pair-accepted b out count 0 (told .0) (told .1)
 
-  -- the list has at least p entries, and the first pairs stand in it.
+  -- the list has at least p entries, the first pairs stand in it, there are at least k, and the new count is lower by k.
   pub apart-only : (a : Account) → meaning b ≡ accepted a → (left : ℕ) → apartAnswer b out count k ≡ TakenApart left
       → (a .positions ≤ length out) × FirstPairs a out count × (k ≤ count) × (left ≡ count - k)
   apart-only a e left q =

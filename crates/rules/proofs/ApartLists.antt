@@ -27,7 +27,7 @@ first-fewer : (a : Account) (left k : ℕ) → left + k ≤ length (allPairs a) 
 first-fewer a left k h =
     ap (take left) (first-more a left k) ∙ take-at (firstPairs a left) _ left (omega (arith, first-length a left))
 
--- "The list then keeps its content": after a refusal the list is what it was, whatever it held.
+-- "Every lent list keeps its content": after a refusal the list is what it was, whatever it held.
 pub apart-leaves : (b : List ℕ) (out : List Line) (count k : ℕ) (w : Refusal) (row : ℕ)
     → apartAnswer b out count k ≡ NotTakenApart w row → listApart b out count k ≡ out
 unfolding listApart

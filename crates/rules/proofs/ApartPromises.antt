@@ -160,7 +160,7 @@ back b kept k = go (pairAnswer b (kept .list) (kept .count) k) refl
     go (NotPaired w row) q = subst (GoesBack b k kept) (sym (refused-stays b kept k w row q)) (refused-back b kept k w row q)
     go (Paired made) q = subst (GoesBack b k kept) (sym (back-is b kept k made q)) (made-back b kept k made q)
 
--- The other way round: after taking apart k, pairing with an allowance of k makes k pairs, and gives back list and count.
+-- The list after taking apart k.
 module _ (b : List ℕ) (kept : PairedList) (k left : ℕ) (q : apartAnswer b (kept .list) (kept .count) k ≡ TakenApart left)
     (a : Account) (e : meaning b ≡ accepted a) where
   abbrev less : List Line
@@ -205,6 +205,7 @@ module _ (b : List ℕ) (kept : PairedList) (k left : ℕ) (q : apartAnswer b (k
       ap (λ (n : ℕ). contractsLeft a (record { list = less; count = n }) r) (ap (countAfter (kept .count)) q)
       ∙ contracts-stand b a e (record { list = less; count = left }) less-room less-stand r there
 
+-- The other way round: after taking apart k, pairing with an allowance of k makes k pairs, and gives back list and count.
 pub apart-paired : (b : List ℕ) (kept : PairedList) (k left : ℕ) → apartAnswer b (kept .list) (kept .count) k ≡ TakenApart left
     → (pairAnswer b (afterApart b k kept .list) left k ≡ Paired k) × (afterCall b k (afterApart b k kept) ≡ kept)
 apart-paired b kept k left q = (told, again)

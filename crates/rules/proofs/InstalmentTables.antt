@@ -20,33 +20,33 @@ use Rattle.rules.specs.declared.Line.{Line}
 use Rattle.rules.specs.declared.PairAnswer.the-variants.{NotPaired, Paired}
 use Rattle.rules.specs.declared.Refusal.the-variants.{FileSize, ListTooShort, NotFirstPairs, PositionRange}
 
-abbrev pub line : ℕ → ℕ → ℕ → ℕ → ℕ → Line
-line kind second third fourth fifth =
+abbrev pub lineOf : ℕ → ℕ → ℕ → ℕ → ℕ → Line
+lineOf kind second third fourth fifth =
     record { kind = kind; secondNumber = second; thirdNumber = third; fourthNumber = fourth; fifthNumber = fifth }
 
 -- An entry that is no line.
 abbrev pub mark : ℕ → Line
-mark n = line n n n n n
+mark n = lineOf n n n n n
 
 -- A list of one entry more than the account has positions, with these two first.
 abbrev pub listOf : Line → Line → List Line
 listOf x y = x ∷ y ∷ mark 9 ∷ mark 10 ∷ []
 
 -- "pair 0 2 3 0" and "pair 0 1 4 3000", after none, one and both of which the list is this.
-abbrev pub first : Line
-first = line 1 0 2 3 0
+abbrev pub firstPair : Line
+firstPair = lineOf 1 0 2 3 0
 
-abbrev pub second : Line
-second = line 1 0 1 4 3_000
+abbrev pub secondPair : Line
+secondPair = lineOf 1 0 1 4 3_000
 
-abbrev pub none : List Line
-none = listOf (mark 7) (mark 8)
+abbrev pub noPairs : List Line
+noPairs = listOf (mark 7) (mark 8)
 
-abbrev pub one : List Line
-one = listOf first (mark 8)
+abbrev pub onePair : List Line
+onePair = listOf firstPair (mark 8)
 
-abbrev pub two : List Line
-two = listOf first second
+abbrev pub twoPairs : List Line
+twoPairs = listOf firstPair secondPair
 
 -- The largest number of 64 bits.
 abbrev pub huge : ℕ
@@ -56,46 +56,46 @@ huge = 18_446_744_073_709_551_615
 -- Entries from count on are not looked at.
 abbrev Amounts : Type 0
 Amounts =
-    (amountSoFar example none 0 ≡ Amount 25_300)
-    × (amountSoFar example one 1 ≡ Amount 17_800)
-    × (amountSoFar example two 2 ≡ Amount 10_800)
-    × (amountSoFar example two 1 ≡ Amount 17_800)
-    × (amountSoFar example two 0 ≡ Amount 25_300)
+    (amountSoFar example noPairs 0 ≡ Amount 25_300)
+    × (amountSoFar example onePair 1 ≡ Amount 17_800)
+    × (amountSoFar example twoPairs 2 ≡ Amount 10_800)
+    × (amountSoFar example twoPairs 1 ≡ Amount 17_800)
+    × (amountSoFar example twoPairs 0 ≡ Amount 25_300)
     -- Each line is rounded up by itself, and premiums are exact: 4 centavos and 7; 1, 2 and 7.
     × (amountSoFar (paired 7) (mark 7 ∷ mark 8 ∷ []) 0 ≡ Amount 107)
-    × (amountSoFar (paired 7) (line 1 0 1 1 100 ∷ mark 8 ∷ []) 1 ≡ Amount 207)
+    × (amountSoFar (paired 7) (lineOf 1 0 1 1 100 ∷ mark 8 ∷ []) 1 ≡ Amount 207)
 
 -- How many pairs are made, by the count and the allowance: there are two.
 abbrev PairsMade : Type 0
 PairsMade =
-    (pairAnswer example none 0 0 ≡ Paired 0)
-    × (pairAnswer example none 0 1 ≡ Paired 1)
-    × (pairAnswer example none 0 2 ≡ Paired 2)
-    × (pairAnswer example none 0 3 ≡ Paired 2)
-    × (pairAnswer example none 0 huge ≡ Paired 2)
-    × (pairAnswer example one 1 0 ≡ Paired 0)
-    × (pairAnswer example one 1 1 ≡ Paired 1)
-    × (pairAnswer example one 1 2 ≡ Paired 1)
-    × (pairAnswer example one 1 huge ≡ Paired 1)
-    × (pairAnswer example two 2 0 ≡ Paired 0)
-    × (pairAnswer example two 2 1 ≡ Paired 0)
-    × (pairAnswer example two 2 huge ≡ Paired 0)
+    (pairAnswer example noPairs 0 0 ≡ Paired 0)
+    × (pairAnswer example noPairs 0 1 ≡ Paired 1)
+    × (pairAnswer example noPairs 0 2 ≡ Paired 2)
+    × (pairAnswer example noPairs 0 3 ≡ Paired 2)
+    × (pairAnswer example noPairs 0 huge ≡ Paired 2)
+    × (pairAnswer example onePair 1 0 ≡ Paired 0)
+    × (pairAnswer example onePair 1 1 ≡ Paired 1)
+    × (pairAnswer example onePair 1 2 ≡ Paired 1)
+    × (pairAnswer example onePair 1 huge ≡ Paired 1)
+    × (pairAnswer example twoPairs 2 0 ≡ Paired 0)
+    × (pairAnswer example twoPairs 2 1 ≡ Paired 0)
+    × (pairAnswer example twoPairs 2 huge ≡ Paired 0)
 
 -- The list after a call; begun anew, the first line is written again and the entry after it stays; refused, all stay.
 abbrev ListsAfter : Type 0
 ListsAfter =
-    (listPaired example none 0 0 ≡ none)
-    × (listPaired example none 0 1 ≡ one)
-    × (listPaired example none 0 2 ≡ two)
-    × (listPaired example none 0 huge ≡ two)
-    × (listPaired example one 1 0 ≡ one)
-    × (listPaired example one 1 1 ≡ two)
-    × (listPaired example one 1 huge ≡ two)
-    × (listPaired example two 2 huge ≡ two)
-    × (listPaired example two 0 1 ≡ two)
-    × (listPaired example none 1 1 ≡ none)
-    × (listPaired example one 2 1 ≡ one)
-    × (afterCalls example (1 ∷ 0 ∷ 5 ∷ []) (begun none) ≡ record { list = two; count = 2 })
+    (listPaired example noPairs 0 0 ≡ noPairs)
+    × (listPaired example noPairs 0 1 ≡ onePair)
+    × (listPaired example noPairs 0 2 ≡ twoPairs)
+    × (listPaired example noPairs 0 huge ≡ twoPairs)
+    × (listPaired example onePair 1 0 ≡ onePair)
+    × (listPaired example onePair 1 1 ≡ twoPairs)
+    × (listPaired example onePair 1 huge ≡ twoPairs)
+    × (listPaired example twoPairs 2 huge ≡ twoPairs)
+    × (listPaired example twoPairs 0 1 ≡ twoPairs)
+    × (listPaired example noPairs 1 1 ≡ noPairs)
+    × (listPaired example onePair 2 1 ≡ onePair)
+    × (afterCalls example (1 ∷ 0 ∷ 5 ∷ []) (begun noPairs) ≡ record { list = twoPairs; count = 2 })
 
 -- 18: each of the five numbers of the first and of the second line.
 abbrev refused18 : List Line → ℕ → Type 0
@@ -104,26 +104,26 @@ refused18 out count =
 
 abbrev NumbersWrong : Type 0
 NumbersWrong =
-    refused18 (listOf (line 2 0 2 3 0) second) 1
-    × refused18 (listOf (line 1 1 2 3 0) second) 1
-    × refused18 (listOf (line 1 0 1 3 0) second) 1
-    × refused18 (listOf (line 1 0 2 4 0) second) 1
-    × refused18 (listOf (line 1 0 2 3 1) second) 2
-    × refused18 (listOf first (line 0 0 1 4 3_000)) 2
-    × refused18 (listOf first (line 1 2 1 4 3_000)) 2
-    × refused18 (listOf first (line 1 0 0 4 3_000)) 2
-    × refused18 (listOf first (line 1 0 1 3 3_000)) 2
-    × refused18 (listOf first (line 1 0 1 4 2_900)) 2
+    refused18 (listOf (lineOf 2 0 2 3 0) secondPair) 1
+    × refused18 (listOf (lineOf 1 1 2 3 0) secondPair) 1
+    × refused18 (listOf (lineOf 1 0 1 3 0) secondPair) 1
+    × refused18 (listOf (lineOf 1 0 2 4 0) secondPair) 1
+    × refused18 (listOf (lineOf 1 0 2 3 1) secondPair) 2
+    × refused18 (listOf firstPair (lineOf 0 0 1 4 3_000)) 2
+    × refused18 (listOf firstPair (lineOf 1 2 1 4 3_000)) 2
+    × refused18 (listOf firstPair (lineOf 1 0 0 4 3_000)) 2
+    × refused18 (listOf firstPair (lineOf 1 0 1 3 3_000)) 2
+    × refused18 (listOf firstPair (lineOf 1 0 1 4 2_900)) 2
 
 -- 18: a count above the pairs, with the left line too; above the list; and as large as it can be.
 abbrev CountsWrong : Type 0
 CountsWrong =
-    refused18 two 3
-    × refused18 (first ∷ second ∷ line 2 0 3 7_500 0 ∷ mark 10 ∷ []) 3
-    × refused18 two 5
-    × refused18 two huge
-    × refused18 one 2
-    × refused18 none 1
+    refused18 twoPairs 3
+    × refused18 (firstPair ∷ secondPair ∷ lineOf 2 0 3 7_500 0 ∷ mark 10 ∷ []) 3
+    × refused18 twoPairs 5
+    × refused18 twoPairs huge
+    × refused18 onePair 2
+    × refused18 noPairs 1
 
 -- The file's refusal before 12, and 12 before 18; a list of as many entries as positions is long enough.
 abbrev Order : Type 0
@@ -134,10 +134,10 @@ Order =
     × (amountSoFar (twoRows (rowBytes 0 1 0 4 10 3100 0 0 0 1)) [] 1 ≡ NoAmount PositionRange 1)
     × (pairAnswer example (mark 7 ∷ mark 8 ∷ []) 1 1 ≡ NotPaired ListTooShort 0)
     × (amountSoFar example (mark 7 ∷ mark 8 ∷ []) huge ≡ NoAmount ListTooShort 0)
-    × (pairAnswer example (first ∷ second ∷ []) 2 1 ≡ NotPaired ListTooShort 0)
+    × (pairAnswer example (firstPair ∷ secondPair ∷ []) 2 1 ≡ NotPaired ListTooShort 0)
     × (listPaired example (mark 7 ∷ mark 8 ∷ []) 0 1 ≡ mark 7 ∷ mark 8 ∷ [])
     × (pairAnswer example (mark 7 ∷ mark 8 ∷ mark 9 ∷ []) 0 1 ≡ Paired 1)
-    × (listPaired example (mark 7 ∷ mark 8 ∷ mark 9 ∷ []) 0 3 ≡ first ∷ second ∷ mark 9 ∷ [])
+    × (listPaired example (mark 7 ∷ mark 8 ∷ mark 9 ∷ []) 0 3 ≡ firstPair ∷ secondPair ∷ mark 9 ∷ [])
 
 -- Without positions there are no pairs.
 abbrev NoPairs : Type 0

@@ -1,5 +1,5 @@
--- Document 02 [8], Taking pairs apart: which pair lines a call removes, what the caller's list holds then, and what is promised of
--- pairing, taking apart and pairing again, for every file, list, count and k.
+-- Document 02 [8], Taking pairs apart: which pair lines a call removes, what the caller's list holds then, and what is promised
+-- of pairing, taking apart and pairing again, for every file, list, count and k.
 use Prim.Native.Nat.{ℕ, _-_, _<_}
 use mathlib.Core.List.{List, [], _∷_, _++_}
 use mathlib.Core.Path.{_≡_}
@@ -29,11 +29,12 @@ apartChecks a out count k = instalmentChecks a out count ++ ((ltb count k, Above
 unfoldable pub apartFault : Account → List Line → ℕ → ℕ → Fault
 apartFault a out count k = firstFault (apartChecks a out count k)
 
--- "The count falls by k", and is the answer; or the refusal.
+-- How many pair lines stay in the list, or the refusal with row 0.
 abbrev pub apartUnless : Fault → ℕ → ApartAnswer
-apartUnless Clean left = TakenApart left
-apartUnless (Found w) left = NotTakenApart w 0
+apartUnless Clean stay = TakenApart stay
+apartUnless (Found w) stay = NotTakenApart w 0
 
+-- "The count falls by k", and is the answer.
 abbrev pub apartForFile : List ℕ → List Line → ℕ → ℕ → FileRead → ApartAnswer
 apartForFile b out count k (Refused w i) = NotTakenApart w i
 apartForFile b out count k (Accepted l) = apartUnless (apartFault (accountOf b l) out count k) (count - k)
@@ -49,17 +50,17 @@ abbrev pub zeroEntries : ℕ → List Line
 zeroEntries n = replicate n zeroEntry
 
 -- What the list holds after that answer. "The latest k pair lines are removed and their entries become all zeros": the pair
--- lines that are left, k entries of zeros, and the entries after the former count as they were; on a refusal all as it was.
+-- lines that stay, k entries of zeros, and the entries after the former count as they were; on a refusal all as it was.
 abbrev pub listTaken : List Line → ℕ → ℕ → ApartAnswer → List Line
 listTaken out count k (NotTakenApart w i) = out
-listTaken out count k (TakenApart left) = take left out ++ (zeroEntries k ++ drop count out)
+listTaken out count k (TakenApart stay) = take stay out ++ (zeroEntries k ++ drop count out)
 
 unfoldable pub listApart : List ℕ → List Line → ℕ → ℕ → List Line
 listApart b out count k = listTaken out count k (apartAnswer b out count k)
 
 -- How many pair lines are in the list after an answer: on a refusal as many as before.
 abbrev pub countAfter : ℕ → ApartAnswer → ℕ
-countAfter count (TakenApart left) = left
+countAfter count (TakenApart stay) = stay
 countAfter count (NotTakenApart w i) = count
 
 -- What a caller keeps after taking apart k.
@@ -93,7 +94,7 @@ pub record GoesBack (b : List ℕ) (k : ℕ) (kept back : PairedList) : Type 0 w
   -- "and the former contracts left in every row",
   pub contracts-are : (a : Account) → meaning b ≡ accepted a → (r : ℕ) → r < a .positions
       → contractsLeft a back r ≡ contractsLeft a kept r
-  -- which are those that the pairing has left after as many pairs;
+  -- which, where the pairing is not refused, are those left after as many pairs;
   pub contracts-after : (a : Account) → meaning b ≡ accepted a → (made : ℕ) → pairAnswer b (kept .list) (kept .count) k ≡ Paired made
       → (r : ℕ) → r < a .positions → contractsLeft a back r ≡ contractsAfter a (kept .count) r
   -- "pairing again writes the same lines": it answers the same, and list and count are those after the first pairing.

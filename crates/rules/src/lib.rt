@@ -148,7 +148,7 @@ pub enum Refusal {
     AboveCount,
 }
 
-// What the checks of the trailer, of a row, of a day or of the lines in a list find.
+// What the checks of the trailer, of a row, of a day, of the lines in a list or of how many are to be taken apart find.
 pub enum Fault {
     Clean,
     Found(Refusal),

@@ -1,5 +1,5 @@
--- What a call that takes pairs apart has worked out, and whether the list begins with its lines, make what the operation promises:
--- over plain lists and numbers.
+-- What a call that takes pairs apart has worked out, and whether the list begins with its lines, make what the operation
+-- promises: over plain lists and numbers.
 -- Assumes nothing.
 use Prim.Native.Nat.{ℕ, _+_, _-_, _*_, _≤_}
 use mathlib.Core.Bool.{Bool, true, false, cond}
@@ -12,7 +12,7 @@ use lib.ListN.{drop, length, take}
 use borrow.Author.Tests.{ltb-false, ltb-true}
 use Rattle.instalments.specs.Ready.{PairsReady, apartBy, keptOf, pairsFor, start}
 use Rattle.instalments.specs.declared.CallLines.{CallLines}
-use Rattle.instalments.specs.declared.CallLines.the-variants.{Lines, NoLines}
+use Rattle.instalments.specs.declared.CallLines.the-variants.{Lines}
 use Rattle.lent.proofs.EntryLaws.{written-none}
 use Rattle.lent.proofs.ZeroLines.{zeros-written}
 use Rattle.lent.proofs.Zeros.{zeros, zeros-length}

@@ -1,4 +1,5 @@
--- What the call that takes pairs apart tells a C program, for every file, list, count and k: the numbers of `rules`' ApartAnswers.
+-- What the call that takes pairs apart tells a C program, for every file, list, count and k: the numbers of `rules`'
+-- ApartAnswers.
 -- Assumes nothing.
 use Prim.Native.Nat.{ℕ, _-_, _≤_, _<_}
 use mathlib.Core.List.{List}

@@ -1,5 +1,6 @@
--- `serpentgleam_take_apart` meets its contract: a walk of its code, which has no branch. All that it knows of its callees is that
--- each meets its contract; each call is one step (`InstalmentCalls.antt`, `ApartCalls.antt`; `AgreeCall.antt` and `WriteCall.antt` of crate `lent`). Assumes nothing.
+-- `serpentgleam_take_apart` meets its contract: a walk of its code, which has no branch. All that it knows of its callees is
+-- that each meets its contract; each call is one step (`InstalmentCalls.antt`, `ApartCalls.antt`; `AgreeCall.antt` and
+-- `WriteCall.antt` of crate `lent`). Assumes nothing.
 use Rattle.lent.proofs.Walk.{_≡_, refl, _∙_, ap, ℕ, _<_, _^_, [], _∷_, List, lit<, length, URA, fullShare, named, w64, tyInt, tyBool, tyArray, Val, vint, SProp, ent, emp, via, fst∗, Lft, Share, Fml, ftrue, fat, froom, flft, Memory, Routine, Heap, Calls, Loops, WpFn, Tables, Atoms, Fun, givenOf, tables, Given, ‵, _⊛_, ⋆, _$_, _∵_, !, qed, by, move, use1, split, join, rewrite, fsplit, fjoin, suffices, frame, done, drop, look, init, stop, hop, fld, from, load, lit, of-opd, and-then, no-more, assigns, returns, enter, alloc1, alloc0, params1, pass1, pass0, free1, free0, addr, whole, sub, look-in, agg, rep, fmOf, WpFn-mono, FmC, owns, Is, uint-makes, uint-vals, uint-tells, uint-lawful, nothing-lawful, bool-lawful, u64, u8, RefT, sliceVal, MutSlice, ShrSlice, Room, slice-vals, mut-slice-tells, shr-slice-tells, finally, owned, nothing, only, onEntry, Meets, tripleOf, Triple, entered, cited, Stays, stay-none, stay-none-slice, walkOf, goes-none, goes-none-slice, Walks, ends-at, walked, walk-meets, gave-slice, goes-gave-slice, yes, plain, tablesOf}
 use denote.Enum.Laws as EL
 use denote.Struct.Laws as LL
@@ -110,7 +111,8 @@ module _ {M : Type 1} (𝓤 : URA M) (H : Heap 𝓤) (A : Atoms 𝓤) (W : Given
         assigns ! (rep ! mostNumbers (lit ! tt)) (from ! (stop !)) (init-zeros ! 36 refl) $
         -- [the numbers; the locals; the tokens; what the parameters own]
         move ! (49 ∷ []) $ fsplit ! $ move ! (1 ∷ []) $ fsplit ! $ move ! (51 ∷ []) $ split ! $ move ! (1 ∷ []) $ split ! $ move ! (3 ∷ 0 ∷ 6 ∷ 2 ∷ 5 ∷ []) $ move ! (5 ∷ 6 ∷ []) $ drop ! $ drop ! $
-        -- [lines; its token; the numbers; file's token; file; _23 at 5, _6 at 39, _2 at 46, _0 at 50]: so before and after each call
+        -- [lines; its token; the numbers; file's token; file; _23 at 5, _6 at 39, _2 at 46, _0 at 50]: so before and after each
+        -- call
         fills ! (of-opd ! (load ! (from ! (fld ! refl (stop !))) (look-in ! 46 (sub ! 1 refl (whole !))))) 27 refl (tt, record { fits = room′ .0 }) $
         fills ! (addr ! (from ! (stop !))) 25 refl (tt, tt) $
         fills ! (agg ! (and-then ! (local ! 25 refl) (and-then ! (lit ! tt) (no-more !)))) 23 refl (tt, (tt, (record { fits = lit< tt }, tt))) $
