@@ -33,10 +33,13 @@ left_in() {
     find "$1" ! -type d -o -name '*serpentgleam*'
 }
 
-# What the client prints of instalments that are refused, whatever the account.
+# What the client prints of instalments and of pairs taken apart that are refused, whatever the account.
 refused_pairs='pair: refusal 18, row 0, value 0, entries changed 0, amount 0
 pair: refusal 1, row 0, value 0, entries changed 0, amount 0'
 not_first="18: the lines in the list are not the account's first pairs"
+refused_apart='apart: refusal 18, row 0, value 0, entries changed 0, amount 0
+apart: refusal 1, row 0, value 0, entries changed 0, amount 0'
+above_count='19: more pairs to take apart than there are in the list'
 
 # What the client prints of factors, whatever the account.
 factors='factors 1863083 1085366, refusal 0, row 0
@@ -107,6 +110,13 @@ pair: refusal 0, row 0, value 1, entries changed 1, amount 10800
 $refused_pairs
 no list: refusal 12, row 0, value 0, amount 0
 $not_first
+apart: refusal 0, row 0, value 1, entries changed 1, amount 17800
+pair: refusal 0, row 0, value 1, entries changed 1, amount 10800
+apart: refusal 19, row 0, value 0, entries changed 0, amount 10800
+$refused_apart
+apart: refusal 0, row 0, value 0, entries changed 2, amount 25300
+no list: refusal 12, row 0, value 0
+$above_count
 $factors
 $days
 total after it 11700
@@ -127,6 +137,13 @@ pair: refusal 0, row 0, value 0, entries changed 0, amount 0
 $refused_pairs
 no list: refusal 0, row 0, value 0, amount 0
 $not_first
+apart: refusal 0, row 0, value 0, entries changed 0, amount 0
+pair: refusal 0, row 0, value 0, entries changed 0, amount 0
+apart: refusal 19, row 0, value 0, entries changed 0, amount 0
+$refused_apart
+apart: refusal 0, row 0, value 0, entries changed 0, amount 0
+no list: refusal 0, row 0, value 0
+$above_count
 $factors
 $days
 total after it 0

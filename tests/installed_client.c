@@ -2,9 +2,9 @@
  * A small program for an installation to be tried with, as C and as C++: installed_client FILE prints the version, the
  * lines, premiums and total of the account file and its first row's amount, how many entries after the lines have kept
  * their content, and the answer where the list is NULL and has no entries; then the refusal of a file without bytes,
- * instalments of pairs, the entries that each changed and the amount after it, factors that are there and factors that are
- * not, days of series row 0 that are refused and one that is done twice, how many bytes each of them changed, the total
- * after it, and what is said of the numbers 3 and 15, which no refusal has.
+ * instalments of pairs, then pairs taken apart, the entries that each changed and the amount after it, factors that are
+ * there and factors that are not, days of series row 0 that are refused and one that is done twice, how many bytes each of
+ * them changed, the total after it, and what is said of the numbers 3 and 15, which no refusal has.
  */
 #include <serpentgleam.h>
 
@@ -28,17 +28,49 @@ static int kept_after(uint64_t count)
     return kept;
 }
 
-/* Makes pairs after the first count and prints the answer, how many entries it changed and the amount after it. */
+/* Prints a call's answer, how many entries it changed and the amount after it, with so many pairs. */
+static void print_answer(const char *call, struct serpentgleam_answer answer, size_t length, uint64_t count)
+{
+    printf("%s: refusal %" PRIu64 ", row %" PRIu64 ", value %" PRIu64 ", entries changed %d, amount %" PRIu64 "\n", call,
+           answer.refusal, answer.row, answer.value, SERPENTGLEAM_MOST_LINES - kept_after(0),
+           serpentgleam_amount_so_far(file, length, lines, SERPENTGLEAM_MOST_LINES, count).value);
+}
+
+/* Makes pairs after the first count. */
 static uint64_t print_pair(size_t length, uint64_t count, uint64_t allowance)
 {
-    struct serpentgleam_answer made, amount;
+    struct serpentgleam_answer made;
 
     memcpy(before, lines, sizeof before);
     made = serpentgleam_pair(file, length, lines, SERPENTGLEAM_MOST_LINES, count, allowance);
-    amount = serpentgleam_amount_so_far(file, length, lines, SERPENTGLEAM_MOST_LINES, count + made.value);
-    printf("pair: refusal %" PRIu64 ", row %" PRIu64 ", value %" PRIu64 ", entries changed %d, amount %" PRIu64 "\n",
-           made.refusal, made.row, made.value, SERPENTGLEAM_MOST_LINES - kept_after(0), amount.value);
+    print_answer("pair", made, length, count + made.value);
     return made.value;
+}
+
+/* Takes the latest k of the first count pairs apart. */
+static void print_apart(size_t length, uint64_t count, uint64_t k)
+{
+    struct serpentgleam_answer left;
+
+    memcpy(before, lines, sizeof before);
+    left = serpentgleam_take_apart(file, length, lines, SERPENTGLEAM_MOST_LINES, count, k);
+    print_answer("apart", left, length, left.refusal == 0 ? left.value : count);
+}
+
+/* Prints what it comes to that half of these pairs are taken apart and made again, what is refused, and that all are. */
+static void print_all_apart(size_t length, uint64_t count)
+{
+    struct serpentgleam_answer left;
+
+    print_apart(length, count, count / 2);
+    print_pair(length, count - count / 2, count / 2);
+    print_apart(length, count, count + 1);
+    print_apart(length, UINT64_MAX, UINT64_MAX);
+    print_apart(0, count, count);
+    print_apart(length, count, count);
+    left = serpentgleam_take_apart(file, length, NULL, 0, 0, 0);
+    printf("no list: refusal %" PRIu64 ", row %" PRIu64 ", value %" PRIu64 "\n", left.refusal, left.row, left.value);
+    printf("%d: %s\n", SERPENTGLEAM_REFUSED_ABOVE_COUNT, serpentgleam_refusal_sentence(SERPENTGLEAM_REFUSED_ABOVE_COUNT));
 }
 
 /* Prints what instalments make of a list without lines, two that are refused, and the answer without a list. */
@@ -58,6 +90,7 @@ static void print_all_pairs(size_t length)
            made.value, serpentgleam_amount_so_far(file, length, NULL, 0, 0).value);
     printf("%d: %s\n", SERPENTGLEAM_REFUSED_NOT_FIRST_PAIRS,
            serpentgleam_refusal_sentence(SERPENTGLEAM_REFUSED_NOT_FIRST_PAIRS));
+    print_all_apart(length, count);
 }
 
 /* Prints the answer for a code and days. */

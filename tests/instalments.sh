@@ -8,4 +8,4 @@ archive=${SERPENTGLEAM_LIBRARY:-target/staticlib/libserpentgleam.a}
 gcc -std=c99 -O2 -Wall -Wextra -Wpedantic -Werror -Iinclude -o target/instalment_calls tests/instalments/main.c "$archive"
 target/instalment_calls < tests/instalments/cases > target/instalment_calls.answers
 cmp target/instalment_calls.answers tests/instalments/answers
-echo "instalments: $(grep -cE '^(made|amount|refused) ' target/instalment_calls.answers) calls of the library, no difference"
+echo "instalments: $(grep -cE '^(made|amount|count|refused) ' target/instalment_calls.answers) calls of the library, no difference"

@@ -15,7 +15,9 @@ CHECK_18 = '''    if made != count || list[..lines.len()] != lines {
     }
 '''
 OTHER_LINES = 'list[..lines.len()] != lines'
-HALF = '    let mut half = read_half_paired(bytes, list, count)?;\n'
+HALF = '''    let mut half = read_half_paired(bytes, list, count)?;
+    let before = half.pairs.len();
+'''
 MAKE = '    let made = half.make(allowance);\n'
 WRITE = '''    for (entry, pair) in list[before..].iter_mut().zip(&half.pairs[before..]) {
         *entry = pair_entry(pair);

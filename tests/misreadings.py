@@ -7,8 +7,9 @@ copy margins the reference's vectors (the accounts in crates/margin_batch/stdin)
 not that of crates/margin_batch/stdout. With a misreading of the amount for one position it prints those of the files in
 crates/position_amounts/stdin; a file notices where its amounts are not those of crates/position_amounts/stdout. With a
 misreading of the day it brings the files of crates/day_batch/stdin up to date; a case notices where its answer or the
-bytes after it are not those of crates/day_batch/stdout. With a misreading of instalments it makes the calls in
-tests/instalments/cases; a case notices where an answer or a list after it is not that of tests/instalments/answers.
+bytes after it are not those of crates/day_batch/stdout. With a misreading of instalments or of taking pairs apart it makes
+the calls in tests/instalments/cases; a case notices where an answer or a list after it is not that of
+tests/instalments/answers.
 With a misreading of the factors it prints the list of all factors; a line notices where it is not that of
 crates/factors_list/stdout.
 
@@ -22,6 +23,7 @@ import tempfile
 from collections import namedtuple
 
 import misread_amounts
+import misread_apart
 import misread_days
 import misread_factors
 import misread_file
@@ -84,7 +86,8 @@ def by_cases_of_instalments():
             return file.read()
 
     given, expected = stored('cases'), stored('answers')
-    return Noticing('case', 'instalments_reference_batch', given, answers_of, expected, [misread_instalments])
+    return Noticing('case', 'instalments_reference_batch', given, answers_of, expected,
+                    [misread_instalments, misread_apart])
 
 
 def by_lines_of_factors():

@@ -1,20 +1,14 @@
-//! Deliberate changes of pairing in instalments, and of the amount so far.
+//! Deliberate changes of pairing in instalments and of the amount so far.
 
-use reference::account::Account;
+use reference::instalment_cases::Call;
 use reference::instalments::HalfPaired;
 use reference::lines::{margin, pair_entry, premiums};
 use reference::reader::read_account;
 
+use crate::changed_apart;
 use crate::changes::Change;
 use crate::implementation::{Answer, Implementation, Line};
-
-/// What is handed over beside the list.
-#[derive(Clone, Copy)]
-struct Numbers {
-    room: usize,
-    count: u64,
-    allowance: u64,
-}
+use crate::list::List;
 
 /// Places in an entry.
 const KIND: usize = 0;
@@ -22,59 +16,49 @@ const AMOUNT: usize = 4;
 
 const LOW_HALF: u64 = 1 << 32;
 
-/// Pairs made in another way.
-pub fn pair(
+/// The call answered in another way.
+pub fn answer(
     change: Change,
     of: &dyn Implementation,
     file: &[u8],
-    entries: &mut [Line],
-    (room, count, allowance): (usize, u64, u64),
+    list: &mut List,
+    call: Call,
 ) -> Answer {
-    let asked = asked(change, Numbers { room, count, allowance });
-    let before = entries.to_vec();
-    let answer = of.pair(file, entries, room, asked.count, asked.allowance);
-    if answer.refusal == 0 {
-        change_made(change, file, entries, &before, asked, answer)
-    } else if taken_all_the_same(change, file, &before, asked, answer) {
-        with_right_lines(file, entries, asked, |lines| {
-            of.pair(file, lines, room, asked.count, asked.allowance)
-        })
-    } else {
-        if change == Change::PairOnRefusal && room > 0 {
-            entries[room - 1][AMOUNT] ^= 1;
+    let call = asked(change, call);
+    let before = list.clone();
+    let answer = of.call(file, list, call);
+    if taken_all_the_same(change, file, list, call, answer) {
+        return with_right_lines(of, file, list, call);
+    }
+    match (answer.refusal, call) {
+        (0, Call::Pair { count, allowance }) => {
+            change_made(change, file, list, &before, (count, allowance), answer)
         }
-        change_refusal(change, asked, answer)
+        (0, Call::Amount { count }) => change_so_far(change, file, list, count, answer),
+        (0, Call::Apart { count, k }) => {
+            changed_apart::change_taken(change, list, &before, (count, k), answer)
+        }
+        (_, Call::Apart { count, k }) => {
+            changed_apart::change_refused(change, list, (count, k), answer)
+        }
+        _ => change_refusal(change, list, call, answer),
     }
 }
 
-/// The amount so far, another one.
-pub fn amount_so_far(
-    change: Change,
-    of: &dyn Implementation,
-    file: &[u8],
-    entries: &mut [Line],
-    (room, count): (usize, u64),
-) -> Answer {
-    let asked = asked(change, Numbers { room, count, allowance: 0 });
-    let answer = of.amount_so_far(file, entries, room, asked.count);
-    if answer.refusal == 0 {
-        let value = change_amount(change, file, asked.count, answer.value);
-        if change == Change::SoFarWritesList && room > 0 {
-            entries[0][AMOUNT] ^= 1;
+/// The call that is made in place of this one.
+fn asked(change: Change, call: Call) -> Call {
+    match (change, call) {
+        (Change::PairCountCut, Call::Amount { count }) => Call::Amount { count: count % LOW_HALF },
+        (_, Call::Amount { .. }) => call,
+        (_, Call::Pair { count, allowance }) => asked_to_pair(change, count, allowance),
+        (_, Call::Apart { count, k }) => {
+            let (count, k) = changed_apart::asked(change, count, k);
+            Call::Apart { count, k }
         }
-        Answer { value, ..answer }
-    } else if taken_all_the_same(change, file, entries, asked, answer) {
-        with_right_lines(file, entries, asked, |lines| {
-            of.amount_so_far(file, lines, room, asked.count)
-        })
-    } else {
-        change_refusal(change, asked, answer)
     }
 }
 
-/// What is asked in place of these numbers.
-fn asked(change: Change, numbers: Numbers) -> Numbers {
-    let Numbers { count, allowance, .. } = numbers;
+fn asked_to_pair(change: Change, count: u64, allowance: u64) -> Call {
     let (count, allowance) = match change {
         Change::PairAll if allowance > 0 => (count, u64::MAX),
         Change::PairOneMore if allowance > 0 => (count, allowance.saturating_add(1)),
@@ -84,34 +68,34 @@ fn asked(change: Change, numbers: Numbers) -> Numbers {
         Change::PairCountCut => (count % LOW_HALF, allowance),
         _ => (count, allowance),
     };
-    Numbers { count, allowance, ..numbers }
+    Call::Pair { count, allowance }
 }
 
 /// After pairs were made, or none of those allowed.
 fn change_made(
     change: Change,
     file: &[u8],
-    entries: &mut [Line],
-    before: &[Line],
-    asked: Numbers,
+    list: &mut List,
+    before: &List,
+    (count, allowance): (u64, u64),
     answer: Answer,
 ) -> Answer {
-    let (first, made) = (asked.count as usize, answer.value as usize);
-    let end = first + made;
+    let (first, made) = (count as usize, answer.value as usize);
+    let (end, room, lines) = (first + made, list.room, list.lines_mut());
     match change {
-        Change::PairEntryAfter if end < asked.room => entries[end] = [0; 5],
+        Change::PairEntryAfter if end < room => lines[end] = [0; 5],
         Change::PairFromZero => {
-            let lines = entries[first..end].to_vec();
-            entries.copy_from_slice(before);
-            entries[..made].copy_from_slice(&lines);
+            let new = lines[first..end].to_vec();
+            lines.copy_from_slice(before.lines());
+            lines[..made].copy_from_slice(&new);
         }
-        Change::PairBackwards => entries[first..end].reverse(),
-        Change::PairBesideList => entries[asked.room][KIND] = 1,
-        Change::PairLeftLines if answer.value < asked.allowance => {
-            write_left_lines(file, &mut entries[end..asked.room]);
+        Change::PairBackwards => lines[first..end].reverse(),
+        Change::PairBesideList => list.behind()[KIND] = 1,
+        Change::PairLeftLines if answer.value < allowance => {
+            write_left_lines(file, &mut lines[end..]);
         }
         Change::PairValueSoFar => return Answer { value: end as u64, ..answer },
-        Change::PairValueAllowed => return Answer { value: asked.allowance, ..answer },
+        Change::PairValueAllowed => return Answer { value: allowance, ..answer },
         _ => {}
     }
     answer
@@ -124,16 +108,22 @@ fn write_left_lines(file: &[u8], entries: &mut [Line]) {
     }
 }
 
-fn change_refusal(change: Change, asked: Numbers, answer: Answer) -> Answer {
+/// Of pairs and of the amount.
+fn change_refusal(change: Change, list: &mut List, call: Call, answer: Answer) -> Answer {
+    let count = call.count();
     match (change, answer.refusal) {
-        (Change::LinesBeforeList, 12) if asked.count > 0 => Answer { refusal: 18, ..answer },
-        (Change::LinesBeforeReading, 1..=11) if asked.count > 255 => {
+        (Change::PairOnRefusal, _) if matches!(call, Call::Pair { .. }) => {
+            list.lines_mut().iter_mut().last().into_iter().for_each(|line| line[AMOUNT] ^= 1);
+            answer
+        }
+        (Change::LinesBeforeList, 12) if count > 0 => Answer { refusal: 18, ..answer },
+        (Change::LinesBeforeReading, 1..=11) if count > 255 => {
             Answer { refusal: 18, row: 0, value: 0 }
         }
-        (Change::LinesRefusalRow, 18) => Answer { row: asked.count, ..answer },
+        (Change::LinesRefusalRow, 18) => Answer { row: count, ..answer },
         (Change::LinesRefusalValue, 18) => Answer { value: 1, ..answer },
         (Change::LinesRefusalNumber, 18) => Answer { refusal: 15, ..answer },
-        (Change::LeftLineCounted, 18) if asked.count <= asked.room as u64 => {
+        (Change::LeftLineCounted, 18) if count <= list.room as u64 => {
             Answer { refusal: 0, row: 0, value: 0 }
         }
         _ => answer,
@@ -144,51 +134,72 @@ fn change_refusal(change: Change, asked: Numbers, answer: Answer) -> Answer {
 fn taken_all_the_same(
     change: Change,
     file: &[u8],
-    entries: &[Line],
-    asked: Numbers,
+    list: &List,
+    call: Call,
     answer: Answer,
 ) -> bool {
-    let Ok(account) = read_account(file) else { return false };
-    let lines = first_lines(account, asked.count);
-    if answer.refusal != 18 || lines.len() as u64 != asked.count {
+    if answer.refusal != 18 {
         return false;
     }
+    let right = first_lines(file, call.count());
+    if right.len() as u64 != call.count() {
+        return false;
+    }
+    match call {
+        Call::Apart { k, .. } => changed_apart::enough(change, list.lines(), &right, k),
+        _ => enough(change, list.lines(), &right),
+    }
+}
+
+/// The same of pairs and of the amount, given the lines that are right.
+fn enough(change: Change, lines: &[Line], right: &[Line]) -> bool {
     let same_but = |place: usize| {
-        let mut both = lines.iter().zip(entries);
+        let mut both = right.iter().zip(lines);
         both.all(|(line, entry)| (0..5).all(|at| at == place || line[at] == entry[at]))
     };
     match change {
         Change::LinesNotLookedAt => true,
-        Change::FirstLineOnly => lines[0] == entries[0],
-        Change::LastLineOnly => lines.last() == entries[..lines.len()].last(),
+        Change::FirstLineOnly => right[0] == lines[0],
+        Change::LastLineOnly => right.last() == lines[..right.len()].last(),
         Change::LineKindIgnored => same_but(KIND),
         Change::LineAmountIgnored => same_but(AMOUNT),
         _ => false,
     }
 }
 
-/// The lines of the account's first pairs, so many or all.
-fn first_lines(account: Account, count: u64) -> Vec<Line> {
+/// The lines of the account's first pairs, so many or all; of a file that is accepted.
+fn first_lines(file: &[u8], count: u64) -> Vec<Line> {
+    let Ok(account) = read_account(file) else { return Vec::new() };
     let mut half = HalfPaired::begun(account);
     half.make(count);
     half.pairs.iter().map(pair_entry).collect()
 }
 
-/// The call with the first pairs in the list, which afterwards are as they were.
-fn with_right_lines(
-    file: &[u8],
-    entries: &mut [Line],
-    asked: Numbers,
-    call: impl FnOnce(&mut [Line]) -> Answer,
-) -> Answer {
-    let lines = read_account(file).map(|account| first_lines(account, asked.count));
-    let lines = lines.unwrap_or_default();
-    let (taken, _) = entries.split_at_mut(lines.len());
-    let given = taken.to_vec();
-    taken.copy_from_slice(&lines);
-    let answer = call(entries);
-    entries[..given.len()].copy_from_slice(&given);
+/// The call with the first pairs in the list; those that it leaves there are afterwards as they were.
+fn with_right_lines(of: &dyn Implementation, file: &[u8], list: &mut List, call: Call) -> Answer {
+    let (right, given) = (first_lines(file, call.count()), list.clone());
+    list.lines_mut()[..right.len()].copy_from_slice(&right);
+    let answer = of.call(file, list, call);
+    for (at, line) in right.iter().enumerate() {
+        if list.lines()[at] == *line {
+            list.lines_mut()[at] = given.lines()[at];
+        }
+    }
     answer
+}
+
+/// After an amount was given.
+fn change_so_far(
+    change: Change,
+    file: &[u8],
+    list: &mut List,
+    count: u64,
+    answer: Answer,
+) -> Answer {
+    if change == Change::SoFarWritesList {
+        list.lines_mut().iter_mut().take(1).for_each(|line| line[AMOUNT] ^= 1);
+    }
+    Answer { value: change_amount(change, file, count, answer.value), ..answer }
 }
 
 /// The amount in centavos after so many pairs, given that of the implementation.

@@ -1,11 +1,13 @@
 //! Deliberately changed answers, to see that the comparison finds them.
 
 use reference::day::Day;
+use reference::instalment_cases::Call;
 
 use crate::changed_amounts::{change_amount, change_lines, up_to_real};
 use crate::changed_days::{change_answer, change_applied, change_refused, day_asked, write_beside};
 use crate::changed_instalments;
 use crate::implementation::{Answer, Factors, Implementation, Line, Margin};
+use crate::list::List;
 
 #[derive(Clone, Copy, Debug, PartialEq, Eq)]
 pub enum Change {
@@ -89,11 +91,40 @@ pub enum Change {
     SoFarTotal,
     SoFarOnePairLess,
     SoFarWritesList,
+    ApartAll,
+    ApartZeroTakesOne,
+    ApartKCut,
+    ApartCountCut,
+    ApartCapped,
+    ApartAtCountRefused,
+    ApartFirstKept,
+    ApartLastKept,
+    ApartNotCleared,
+    ApartKindAlone,
+    ApartKindKept,
+    ApartEntryBefore,
+    ApartEntryAfter,
+    ApartFromFirst,
+    ApartMoved,
+    ApartBesideList,
+    ApartCountKept,
+    ApartValueTaken,
+    ApartAnyLines,
+    ApartLatestLinesOnly,
+    ApartOtherLinesOnly,
+    ApartBeforeLines,
+    ApartBeforeList,
+    ApartBeforeReading,
+    ApartRefusalRow,
+    ApartRefusalValue,
+    ApartRefusalNumber,
+    ApartOnRefusal,
+    ApartOnOtherLines,
     FileWritten,
     ReadingOutside,
 }
 
-pub const CHANGES: [(&str, Change); 82] = [
+pub const CHANGES: [(&str, Change); 111] = [
     ("total", Change::Total),
     ("line-count", Change::LineCount),
     ("line-amount", Change::LineAmount),
@@ -174,6 +205,35 @@ pub const CHANGES: [(&str, Change); 82] = [
     ("so-far-total", Change::SoFarTotal),
     ("so-far-one-pair-less", Change::SoFarOnePairLess),
     ("so-far-writes-list", Change::SoFarWritesList),
+    ("apart-all", Change::ApartAll),
+    ("apart-zero-takes-one", Change::ApartZeroTakesOne),
+    ("apart-k-cut", Change::ApartKCut),
+    ("apart-count-cut", Change::ApartCountCut),
+    ("apart-capped", Change::ApartCapped),
+    ("apart-at-count-refused", Change::ApartAtCountRefused),
+    ("apart-first-kept", Change::ApartFirstKept),
+    ("apart-last-kept", Change::ApartLastKept),
+    ("apart-not-cleared", Change::ApartNotCleared),
+    ("apart-kind-alone", Change::ApartKindAlone),
+    ("apart-kind-kept", Change::ApartKindKept),
+    ("apart-entry-before", Change::ApartEntryBefore),
+    ("apart-entry-after", Change::ApartEntryAfter),
+    ("apart-from-first", Change::ApartFromFirst),
+    ("apart-moved", Change::ApartMoved),
+    ("apart-beside-list", Change::ApartBesideList),
+    ("apart-count-kept", Change::ApartCountKept),
+    ("apart-value-taken", Change::ApartValueTaken),
+    ("apart-any-lines", Change::ApartAnyLines),
+    ("apart-latest-lines-only", Change::ApartLatestLinesOnly),
+    ("apart-other-lines-only", Change::ApartOtherLinesOnly),
+    ("apart-before-lines", Change::ApartBeforeLines),
+    ("apart-before-list", Change::ApartBeforeList),
+    ("apart-before-reading", Change::ApartBeforeReading),
+    ("apart-refusal-row", Change::ApartRefusalRow),
+    ("apart-refusal-value", Change::ApartRefusalValue),
+    ("apart-refusal-number", Change::ApartRefusalNumber),
+    ("apart-on-refusal", Change::ApartOnRefusal),
+    ("apart-on-other-lines", Change::ApartOnOtherLines),
     ("file-written", Change::FileWritten),
     ("reading-outside", Change::ReadingOutside),
 ];
@@ -262,23 +322,9 @@ impl Implementation for Changed<'_> {
         change_answer(self.change, day, answer)
     }
 
-    fn pair(
-        &self,
-        file: &[u8],
-        entries: &mut [Line],
-        room: usize,
-        count: u64,
-        allowance: u64,
-    ) -> Answer {
+    fn call(&self, file: &[u8], list: &mut List, call: Call) -> Answer {
         touch(file, self.change);
-        let numbers = (room, count, allowance);
-        changed_instalments::pair(self.change, self.of, file, entries, numbers)
-    }
-
-    fn amount_so_far(&self, file: &[u8], entries: &mut [Line], room: usize, count: u64) -> Answer {
-        touch(file, self.change);
-        let numbers = (room, count);
-        changed_instalments::amount_so_far(self.change, self.of, file, entries, numbers)
+        changed_instalments::answer(self.change, self.of, file, list, call)
     }
 }
 

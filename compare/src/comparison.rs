@@ -10,8 +10,9 @@ use crate::codes_and_days::expectation;
 use crate::days::days;
 use crate::files::File;
 use crate::implementation::{self, Factors, Implementation, Line, Margin};
-use crate::instalments::{compare_instalments, List, BESIDE};
+use crate::instalments::compare_instalments;
 use crate::lending::{Lending, Place};
+use crate::list::{content_before, List};
 use crate::questions::{questions, Question};
 use crate::summary::Summary;
 
@@ -28,8 +29,7 @@ pub enum Answer {
     /// With the file's bytes after it.
     Day(implementation::Answer, Vec<u8>),
     /// With the whole list as it was left, and the entries beside it.
-    Pair(implementation::Answer, Vec<Line>),
-    SoFar(implementation::Answer, Vec<Line>),
+    Call(Call, implementation::Answer, Vec<Line>),
 }
 
 #[derive(Clone, Debug, PartialEq, Eq)]
@@ -103,7 +103,7 @@ pub struct Asking<'a> {
 }
 
 impl Asking<'_> {
-    /// Both answers to a call for instalments on the same list, which is left as the call leaves it.
+    /// Both answers to a call on the same list, which is left as the call leaves it.
     pub fn ask(
         &mut self,
         list: &mut List,
@@ -112,9 +112,9 @@ impl Asking<'_> {
         self.turn += 1;
         let copy = self.copies[self.turn % 2];
         let question = Question::Instalment { room: list.room, call };
-        let mut before = list.clone();
+        let before = list.clone();
         let (answer, expected) = call_answer(self.reference, self.bytes, list, call);
-        let library = call_answer(self.library, copy, &mut before.clone(), call).1;
+        let (_, library) = call_answer(self.library, copy, &mut before.clone(), call);
         if library != expected {
             let (list, reference) = (before.lines().to_vec(), expected);
             return Err(Box::new(Difference::OnList { list, question, reference, library }));
@@ -133,20 +133,11 @@ fn call_answer(
     list: &mut List,
     call: Call,
 ) -> (implementation::Answer, Answer) {
-    let (entries, room) = (&mut list.entries[BESIDE..], list.room);
-    match call {
-        Call::Pair { count, allowance } => {
-            let answer = implementation.pair(file, entries, room, count, allowance);
-            (answer, Answer::Pair(answer, list.entries.clone()))
-        }
-        Call::Amount { count } => {
-            let answer = implementation.amount_so_far(file, entries, room, count);
-            (answer, Answer::SoFar(answer, list.entries.clone()))
-        }
-    }
+    let answer = implementation.call(file, list, call);
+    (answer, Answer::Call(call, answer, list.entries.clone()))
 }
 
-/// What came of a call for instalments.
+/// What came of a call on a list.
 fn call_outcome(call: Call, answer: &implementation::Answer) -> &'static str {
     match (answer.refusal, call) {
         (0, Call::Pair { allowance: 0, .. }) => "allowance 0",
@@ -155,8 +146,12 @@ fn call_outcome(call: Call, answer: &implementation::Answer) -> &'static str {
         (0, Call::Pair { .. }) => "none left to make",
         (0, Call::Amount { count: 0 }) => "no pair",
         (0, Call::Amount { .. }) => "some pairs",
+        (0, Call::Apart { k: 0, .. }) => "none taken apart",
+        (0, Call::Apart { .. }) if answer.value == 0 => "all taken apart",
+        (0, Call::Apart { .. }) => "some taken apart",
         (12, _) => "list too short",
         (18, _) => "not the first pairs",
+        (19, _) => "more than there are",
         _ => "refused file",
     }
 }
@@ -246,12 +241,6 @@ fn answer(implementation: &dyn Implementation, file: &[u8], question: Question) 
     }
 }
 
-/// What an entry holds before the call: numbers that no line has.
-pub fn content_before(entry: usize) -> Line {
-    let mark = 0xA5A5_0000_0000_0000 + 8 * entry as u64;
-    [mark, mark + 1, mark + 2, mark + 3, mark + 4]
-}
-
 impl fmt::Display for Difference {
     fn fmt(&self, out: &mut fmt::Formatter) -> fmt::Result {
         match self {
@@ -291,7 +280,7 @@ fn first_part(answer: &Answer) -> String {
         Answer::Premiums(premiums) => format!("{premiums:?}"),
         Answer::Factors(factors) => format!("{factors:?}"),
         Answer::Day(answer, _) => format!("{answer:?}"),
-        Answer::Pair(answer, _) | Answer::SoFar(answer, _) => format!("{answer:?}"),
+        Answer::Call(_, answer, _) => format!("{answer:?}"),
     }
 }
 
@@ -299,8 +288,7 @@ fn first_part(answer: &Answer) -> String {
 fn write_other_entry(out: &mut fmt::Formatter, one: &Answer, other: &Answer) -> fmt::Result {
     match (one, other) {
         (Answer::Margin(_, expected), Answer::Margin(_, found))
-        | (Answer::Pair(_, expected), Answer::Pair(_, found))
-        | (Answer::SoFar(_, expected), Answer::SoFar(_, found)) => {
+        | (Answer::Call(_, _, expected), Answer::Call(_, _, found)) => {
             write_first_other(out, "entry", expected, found)
         }
         (Answer::Day(_, expected), Answer::Day(_, found)) => {

@@ -3,10 +3,12 @@
 pub use library::{Answer, Factors, Line, Margin};
 use reference::day::{apply_day, Day};
 use reference::factors::factors;
-use reference::instalments::{amount_so_far, pair_into};
+use reference::instalment_cases::Call;
 use reference::lines::{margin_into, premiums};
 use reference::position::one_position;
 use reference::reader::Refusal;
+
+use crate::list::List;
 
 pub trait Implementation {
     /// The caller's list is the first `room` entries; those after it are not handed over.
@@ -21,18 +23,8 @@ pub trait Implementation {
     /// The file is left as it is after the day.
     fn day(&self, file: &mut [u8], day: &Day) -> Answer;
 
-    /// The caller's list is the first `room` entries here too.
-    fn pair(
-        &self,
-        file: &[u8],
-        entries: &mut [Line],
-        room: usize,
-        count: u64,
-        allowance: u64,
-    ) -> Answer;
-
-    /// The entries are to stay as they are.
-    fn amount_so_far(&self, file: &[u8], entries: &mut [Line], room: usize, count: u64) -> Answer;
+    /// A call about the pairs in the list, which is left as the call leaves it.
+    fn call(&self, file: &[u8], list: &mut List, call: Call) -> Answer;
 }
 
 pub struct Reference;
@@ -73,19 +65,8 @@ impl Implementation for Reference {
         number_or_refusal(apply_day(file, day).map(|()| 0))
     }
 
-    fn pair(
-        &self,
-        file: &[u8],
-        entries: &mut [Line],
-        room: usize,
-        count: u64,
-        allowance: u64,
-    ) -> Answer {
-        number_or_refusal(pair_into(file, &mut entries[..room], count, allowance))
-    }
-
-    fn amount_so_far(&self, file: &[u8], entries: &mut [Line], room: usize, count: u64) -> Answer {
-        number_or_refusal(amount_so_far(file, &entries[..room], count).map(|value| value as u64))
+    fn call(&self, file: &[u8], list: &mut List, call: Call) -> Answer {
+        number_or_refusal(call.answer(file, list.lines_mut()))
     }
 }
 

@@ -14,6 +14,8 @@ use crate::comparison::{compare_file, Difference};
 use crate::files::file;
 use crate::implementation::{Answer, Factors, Implementation, Line, Margin, Reference};
 use crate::lending::Lending;
+use crate::list::List;
+use crate::questions::Question;
 use crate::summary::Summary;
 
 const SEED: u64 = 9;
@@ -37,7 +39,10 @@ impl Counting {
         let mut half = HalfPaired::begun(account);
         let pairs = half.make(u64::MAX);
         let lines: Vec<Line> = half.pairs.iter().map(pair_entry).collect();
-        let (Call::Pair { count, .. } | Call::Amount { count }) = call;
+        if let Call::Apart { count, k } = call {
+            return self.count(sort_of_apart(&lines, list, rows, (count, k)));
+        }
+        let count = call.count();
         if list.len() < rows {
             return self.count(Some(if count == 0 { "short" } else { "short, with a count" }));
         }
@@ -80,6 +85,39 @@ fn sort_of_line(line: &Line, entry: &Line, at: usize) -> Option<&'static str> {
     }
 }
 
+/// Given the lines of all pairs.
+fn sort_of_apart(
+    lines: &[Line],
+    list: &[Line],
+    rows: usize,
+    (count, k): (u64, u64),
+) -> Option<&'static str> {
+    let (pairs, above) = (lines.len() as u64, k > count);
+    if list.len() < rows {
+        return Some(if above { "short, k above" } else { "short, taken apart" });
+    }
+    if count > pairs {
+        return Some(if above { "count and k above" } else { "count above, taken apart" });
+    }
+    let (first, left) = (count as usize, count.saturating_sub(k) as usize);
+    let wrong = (0..first).find(|at| lines[*at] != list[*at]);
+    Some(match (wrong, k) {
+        (Some(_), _) if above => "another line, k above",
+        (Some(at), _) if at >= left => "another line to be removed",
+        (Some(_), 1..) => "another line that stays",
+        (Some(_), 0) => "another line, none taken apart",
+        _ if k >= 1 << 32 && k % (1 << 32) <= count => "low bits of k",
+        _ if k == count.saturating_add(1) => "one above the count",
+        _ if above => "k above the count",
+        (None, 0) if count > 0 => "none of the pairs",
+        (None, 1..) if k == count && count < pairs => "all that are counted",
+        (None, 1..) if k == count => "all pairs",
+        (None, 1..) if count < pairs => "some, with pairs behind them",
+        (None, 1..) => "some pairs",
+        _ => return None,
+    })
+}
+
 fn sort_of_allowance(call: Call, rest: u64) -> Option<&'static str> {
     let Call::Pair { count, allowance } = call else {
         return Some("an amount");
@@ -114,21 +152,9 @@ impl Implementation for Counting {
         Reference.day(file, day)
     }
 
-    fn pair(
-        &self,
-        file: &[u8],
-        entries: &mut [Line],
-        room: usize,
-        count: u64,
-        allowance: u64,
-    ) -> Answer {
-        self.look_at(file, &entries[..room], Call::Pair { count, allowance });
-        Reference.pair(file, entries, room, count, allowance)
-    }
-
-    fn amount_so_far(&self, file: &[u8], entries: &mut [Line], room: usize, count: u64) -> Answer {
-        self.look_at(file, &entries[..room], Call::Amount { count });
-        Reference.amount_so_far(file, entries, room, count)
+    fn call(&self, file: &[u8], list: &mut List, call: Call) -> Answer {
+        self.look_at(file, list.lines(), call);
+        Reference.call(file, list, call)
     }
 }
 
@@ -148,16 +174,18 @@ fn calls_are_various() {
     let summary = compared(&counting, 6_000).expect("no difference").to_string();
     assert!(summary.contains("\nserpentgleam_pair: "));
     assert!(summary.contains("\nserpentgleam_amount_so_far: "));
+    assert!(summary.contains("\nserpentgleam_take_apart: "));
     let found = counting.0.into_inner();
-    assert_eq!(found.len(), 20, "{found:#?}");
+    assert_eq!(found.len(), 20 + 16, "{found:#?}");
     assert!(found.values().all(|count| *count >= 10), "{found:#?}");
 }
 
-/// Each change of instalments is found by a call for instalments, and no other.
+/// Each change of instalments is found by a call on a list, and no other; each of taking apart by such a call.
 #[test]
 fn changes_are_found_by_their_calls() {
     let at = |change: Change| CHANGES.iter().position(|known| known.1 == change).expect("known");
-    let of_instalments = at(Change::PairAll)..=at(Change::SoFarWritesList);
+    let of_instalments = at(Change::PairAll)..at(Change::FileWritten);
+    let of_apart = at(Change::ApartAll)..at(Change::FileWritten);
     for (number, (name, change)) in CHANGES.into_iter().enumerate() {
         // Reading outside ends the program, and factors are not asked for here.
         let others = [Change::Fa, Change::Fb, Change::FaOfOneDay, Change::Day1801, Change::CodeCut];
@@ -166,7 +194,12 @@ fn changes_are_found_by_their_calls() {
             continue;
         }
         let difference = compared(&Changed { of: &Reference, change }, 3_000).expect_err(name);
-        let by_instalment = matches!(*difference, Difference::OnList { .. });
-        assert_eq!(by_instalment, of_instalments.contains(&number), "{name}");
+        let by_call = match *difference {
+            Difference::OnList { question: Question::Instalment { call, .. }, .. } => Some(call),
+            _ => None,
+        };
+        assert_eq!(by_call.is_some(), of_instalments.contains(&number), "{name}");
+        let by_apart = matches!(by_call, Some(Call::Apart { .. }));
+        assert_eq!(by_apart, of_apart.contains(&number), "{name}");
     }
 }

@@ -1,15 +1,13 @@
-//! Pairing in instalments: a list begun without lines and gone on with by allowances from the seed, the amount between, and
-//! then lists, counts and allowances that are something else.
+//! Pairing in instalments: a list begun without lines and gone on with by allowances from the seed, the amount between;
+//! pairs taken apart and made again; and then lists, counts, allowances and k that are something else.
 
 use reference::instalment_cases::Call;
 use reference::random::Random;
 
-use crate::comparison::{content_before, Asking, Difference};
+use crate::comparison::{Asking, Difference};
 use crate::files::weighted;
-use crate::implementation::{Answer, Line};
-
-/// Entries on either side of the caller's list, which is not told of them.
-pub const BESIDE: usize = 3;
+use crate::implementation::Answer;
+use crate::list::List;
 
 /// Up to this many rows every instalment is made and every spoiled list tried.
 const FEW_ROWS: usize = 12;
@@ -19,32 +17,6 @@ const MANY_ROWS: usize = 100;
 
 /// Instalments of a file, before the rest is made at once.
 const MOST_INSTALMENTS: usize = 5;
-
-/// The caller's list, with the entries beside it.
-#[derive(Clone, Debug, PartialEq, Eq)]
-pub struct List {
-    pub entries: Vec<Line>,
-    pub room: usize,
-}
-
-impl List {
-    pub fn marked(room: usize) -> List {
-        List { entries: (0..BESIDE + room + BESIDE).map(content_before).collect(), room }
-    }
-
-    /// The list itself.
-    pub fn lines(&mut self) -> &mut [Line] {
-        &mut self.entries[BESIDE..][..self.room]
-    }
-
-    /// The same in a list of fewer entries or more.
-    fn with_room(&self, room: usize) -> List {
-        let mut other = List::marked(room);
-        let both = room.min(self.room);
-        other.lines()[..both].copy_from_slice(&self.entries[BESIDE..][..both]);
-        other
-    }
-}
 
 type Compared = Result<(), Box<Difference>>;
 
@@ -64,6 +36,7 @@ pub fn compare_instalments(
     }
     let mut list = List::marked(p + random.pick(&[0, 0, 1, 5]));
     let count = made_in_instalments(asking, &mut random, &mut list, p)?;
+    taken_apart(asking, &mut random, &mut list, count, p)?;
     let mut others = spoiled(&mut random, &list, count);
     others.push(short(&mut random, &list, p));
     if p > FEW_ROWS {
@@ -74,7 +47,9 @@ pub fn compare_instalments(
             asking.ask(&mut list, call)?;
         }
     }
+    let k = random.pick(&[0, 1]);
     asking.ask(&mut List::marked(0), Call::Pair { count: 0, allowance: 1 })?;
+    asking.ask(&mut List::marked(0), Call::Apart { count: 0, k })?;
     asking.ask(&mut List::marked(0), Call::Amount { count: 0 }).map(|_| ())
 }
 
@@ -100,6 +75,34 @@ fn made_in_instalments(
     count += asking.ask(list, Call::Pair { count, allowance: u64::MAX })?.value;
     asking.ask(list, Call::Amount { count })?;
     Ok(count)
+}
+
+/// Some of all pairs taken apart and made again, with few rows all of them too; and more than there are.
+fn taken_apart(
+    asking: &mut Asking,
+    random: &mut Random,
+    list: &mut List,
+    count: u64,
+    p: usize,
+) -> Compared {
+    let some = random.between(0, count as i64) as u64;
+    for k in if p > FEW_ROWS || some == count { vec![some] } else { vec![some, count] } {
+        asking.ask(list, Call::Apart { count, k })?;
+        if p <= FEW_ROWS {
+            asking.ask(list, Call::Amount { count: count - k })?;
+        }
+        asking.ask(list, Call::Pair { count: count - k, allowance: k })?;
+    }
+    let (above, most) = (above(random, some), u64::MAX);
+    let k = weighted(random, &[(50, count + 1), (40, above), (10, most)]);
+    asking.ask(list, Call::Apart { count, k }).map(|_| ())
+}
+
+/// Below the count, at it and above it.
+fn any_k(random: &mut Random, count: u64) -> u64 {
+    let few = random.between(0, count.min(4) as i64) as u64;
+    let (above, next) = (above(random, few), count.saturating_add(1));
+    weighted(random, &[(40, few), (20, count), (20, next), (10, above), (10, u64::MAX)])
 }
 
 /// Mostly a small number or one about half of the rows.
@@ -129,7 +132,7 @@ pub fn spoiled(random: &mut Random, list: &List, count: u64) -> Vec<Spoiled> {
     // The low bits alone would be accepted.
     let low = random.pick(&[0, count]);
     let cut = above(random, low);
-    let calls = vec![Call::Pair { count: cut, allowance }, Call::Amount { count: cut }];
+    let calls = calls(cut, allowance, any_k(random, cut));
     all.push(Spoiled { list: list.clone(), calls });
     if count == 0 {
         return all;
@@ -138,9 +141,19 @@ pub fn spoiled(random: &mut Random, list: &List, count: u64) -> Vec<Spoiled> {
     all.push(changed_line(random, list, count, line));
     // From here on all pairs are made anew, however many the low bits allow.
     let (from, low) = (line as u64, random.between(0, count as i64 - line as i64) as u64);
-    let calls = vec![Call::Pair { count: from, allowance: above(random, low) }];
-    all.push(Spoiled { list: list.clone(), calls });
+    let allowance = above(random, low);
+    all.push(Spoiled { list: list.clone(), calls: vec![Call::Pair { count: from, allowance }] });
+    // Behind this count there are other pairs, which are not taken apart.
+    let least = count.min(2) - 1;
+    let before = random.between(least as i64, count as i64 - 1) as u64;
+    let k = any_k(random, before);
+    all.push(Spoiled { list: list.clone(), calls: vec![Call::Apart { count: before, k }] });
     all
+}
+
+/// Each call with this count.
+fn calls(count: u64, allowance: u64, k: u64) -> Vec<Call> {
+    vec![Call::Pair { count, allowance }, Call::Amount { count }, Call::Apart { count, k }]
 }
 
 /// One of the lines with a number changed or in another's place; refused, but not where it is not looked at.
@@ -148,7 +161,7 @@ fn changed_line(random: &mut Random, list: &List, count: u64, line: usize) -> Sp
     let mut list = list.clone();
     let place = random.between(0, 4) as usize;
     let (bit, other) = (1 << random.between(0, 63), random.between(0, count as i64 - 1) as usize);
-    let lines = list.lines();
+    let lines = list.lines_mut();
     let number = lines[line][place];
     match random.between(0, 9) {
         0 => lines.swap(line, other),
@@ -162,6 +175,7 @@ fn changed_line(random: &mut Random, list: &List, count: u64, line: usize) -> Sp
     let calls = vec![
         Call::Pair { count, allowance: random.pick(&[0, 1, u64::MAX]) },
         Call::Amount { count: between },
+        Call::Apart { count: between, k: any_k(random, between) },
         Call::Pair { count: least, allowance: 0 },
         Call::Amount { count: least },
         Call::Pair { count: least, allowance: random.pick(&[1, u64::MAX]) },
@@ -176,7 +190,7 @@ fn count_above(random: &mut Random, list: &List, count: u64) -> Spoiled {
     let any = random.draw();
     let row = random.between(0, 3) as u64;
     let last = list.lines()[..pairs].last().copied();
-    if let Some(entry) = list.lines().get_mut(pairs) {
+    if let Some(entry) = list.lines_mut().get_mut(pairs) {
         match random.between(0, 3) {
             0 => *entry = last.unwrap_or(*entry),
             1 => *entry = [0; 5],
@@ -188,8 +202,7 @@ fn count_above(random: &mut Random, list: &List, count: u64) -> Spoiled {
     let counts = [(60, count + 1), (10, count + 2), (10, room), (10, room + 1), (10, any)];
     let count = weighted(random, &counts).max(count + 1);
     let allowance = random.pick(&[0, 1, u64::MAX]);
-    let calls = vec![Call::Pair { count, allowance }, Call::Amount { count }];
-    Spoiled { list, calls }
+    Spoiled { list, calls: calls(count, allowance, any_k(random, count)) }
 }
 
 /// A list of fewer entries than the account has rows, of which there may be none; the count may be wrong too.
@@ -197,7 +210,7 @@ fn short(random: &mut Random, list: &List, p: usize) -> Spoiled {
     let room = random.between(0, (p as i64 - 1).max(0)) as usize;
     let any = random.draw();
     let count = random.pick(&[0, 1, room as u64, p as u64, any]);
-    let calls = vec![Call::Pair { count, allowance: 1 }, Call::Amount { count }];
+    let calls = calls(count, 1, any_k(random, count));
     Spoiled { list: list.with_room(room), calls }
 }
 
@@ -207,6 +220,8 @@ fn of_refused(asking: &mut Asking, random: &mut Random) -> Compared {
     let any = random.draw();
     let (count, allowance) = (random.pick(&[0, 0, 1, any]), random.pick(&[0, 1, any]));
     let mut list = List::marked(room);
-    asking.ask(&mut list, Call::Pair { count, allowance })?;
-    asking.ask(&mut list, Call::Amount { count }).map(|_| ())
+    for call in calls(count, allowance, any_k(random, count)) {
+        asking.ask(&mut list, call)?;
+    }
+    Ok(())
 }

@@ -4,18 +4,20 @@
 //!
 //! 1. [`files`]: the file of a number, from one of three families in turn
 //! 2. [`random_files`], [`structured`], [`damage`]: the families
-//! 3. [`implementation`]: what both implementations are asked through
-//! 4. [`questions`]: what is asked about a file
-//! 5. [`days`]: the days that a file is brought up to date with
-//! 6. [`instalments`]: lists, counts and allowances for pairing in instalments
-//! 7. [`codes_and_days`]: what the factors are asked for
-//! 8. [`lending`]: the memory in which the library gets a file
-//! 9. [`comparison`]: both answers to each question
-//! 10. [`summary`]: what was compared
-//! 11. [`changes`], [`changed_amounts`], [`changed_days`] and [`changed_instalments`]: deliberately changed answers, to
-//!     see that they are found
+//! 3. [`list`]: the caller's list of lines, and entries beside it
+//! 4. [`implementation`]: what both implementations are asked through
+//! 5. [`questions`]: what is asked about a file
+//! 6. [`days`]: the days that a file is brought up to date with
+//! 7. [`instalments`]: lists, counts and allowances for pairing in instalments, and pairs taken apart
+//! 8. [`codes_and_days`]: what the factors are asked for
+//! 9. [`lending`]: the memory in which the library gets a file
+//! 10. [`comparison`]: both answers to each question
+//! 11. [`summary`]: what was compared
+//! 12. [`changes`], [`changed_amounts`], [`changed_days`], [`changed_instalments`] and [`changed_apart`]: deliberately
+//!     changed answers, to see that they are found
 
 pub mod changed_amounts;
+pub mod changed_apart;
 pub mod changed_days;
 pub mod changed_instalments;
 pub mod changes;
@@ -27,6 +29,7 @@ pub mod files;
 pub mod implementation;
 pub mod instalments;
 pub mod lending;
+pub mod list;
 pub mod questions;
 pub mod random_files;
 pub mod structured;

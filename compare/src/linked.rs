@@ -1,7 +1,9 @@
 //! The library that the program is linked with.
 
 use compare::implementation::{Answer, Factors, Implementation, Line, Margin};
+use compare::list::List;
 use reference::day::Day;
+use reference::instalment_cases::Call;
 
 pub struct Library;
 
@@ -27,18 +29,12 @@ impl Implementation for Library {
         library::day(file, series, high, low, close)
     }
 
-    fn pair(
-        &self,
-        file: &[u8],
-        entries: &mut [Line],
-        room: usize,
-        count: u64,
-        allowance: u64,
-    ) -> Answer {
-        library::pair(file, &mut entries[..room], count, allowance)
-    }
-
-    fn amount_so_far(&self, file: &[u8], entries: &mut [Line], room: usize, count: u64) -> Answer {
-        library::amount_so_far(file, &entries[..room], count)
+    fn call(&self, file: &[u8], list: &mut List, call: Call) -> Answer {
+        let lines = list.lines_mut();
+        match call {
+            Call::Pair { count, allowance } => library::pair(file, lines, count, allowance),
+            Call::Amount { count } => library::amount_so_far(file, lines, count),
+            Call::Apart { count, k } => library::take_apart(file, lines, count, k),
+        }
     }
 }

@@ -18,7 +18,7 @@ pub enum Question {
     Day(Day),
     /// The file after the same day once more.
     SameDay(Day),
-    /// Pairs in instalments or the amount so far, with a list of so many entries.
+    /// Pairs in instalments, the amount so far or pairs taken apart, with a list of so many entries.
     Instalment { room: usize, call: Call },
 }
 

@@ -3,6 +3,7 @@
 use std::collections::BTreeMap;
 use std::fmt;
 
+use reference::instalment_cases::Call;
 use reference::reader::Refusal;
 
 use crate::comparison::Answer;
@@ -32,6 +33,8 @@ pub struct Summary {
     pair_calls: Tally,
     pairs: u64,
     so_far_calls: Tally,
+    apart_calls: Tally,
+    taken_apart: u64,
     lines: u64,
     entries_kept: u64,
 }
@@ -73,17 +76,30 @@ impl Summary {
             Answer::Premiums(_) => self.premium_calls += 1,
             Answer::Factors(_) => self.factors_calls.add(purpose),
             Answer::Day(..) => self.day_calls.add(purpose),
-            Answer::Pair(answer, _) => {
+            Answer::Call(Call::Pair { .. }, answer, _) => {
                 self.pair_calls.add(purpose);
                 self.pairs += answer.value;
             }
-            Answer::SoFar(..) => self.so_far_calls.add(purpose),
+            Answer::Call(Call::Amount { .. }, ..) => self.so_far_calls.add(purpose),
+            Answer::Call(Call::Apart { k, .. }, answer, _) => {
+                self.apart_calls.add(purpose);
+                self.taken_apart += if answer.refusal == 0 { *k } else { 0 };
+            }
             Answer::Margin(margin, entries) => {
                 self.margin_calls.add(purpose);
                 self.lines += margin.lines;
                 self.entries_kept += entries.len() as u64 - margin.lines;
             }
         }
+    }
+
+    fn write_calls_on_lists(&self, out: &mut fmt::Formatter) -> fmt::Result {
+        let (calls, pairs) = (self.pair_calls.total(), self.pairs);
+        writeln!(out, "serpentgleam_pair: {calls} calls, {pairs} pairs: {}", self.pair_calls)?;
+        let calls = self.so_far_calls.total();
+        writeln!(out, "serpentgleam_amount_so_far: {calls} calls: {}", self.so_far_calls)?;
+        let (calls, pairs) = (self.apart_calls.total(), self.taken_apart);
+        writeln!(out, "serpentgleam_take_apart: {calls} calls, {pairs} pairs: {}", self.apart_calls)
     }
 }
 
@@ -123,10 +139,7 @@ impl fmt::Display for Summary {
         writeln!(out, "serpentgleam_factors: {calls} calls: {}", self.factors_calls)?;
         let calls = self.day_calls.total();
         writeln!(out, "serpentgleam_day: {calls} calls: {}", self.day_calls)?;
-        let (calls, pairs) = (self.pair_calls.total(), self.pairs);
-        writeln!(out, "serpentgleam_pair: {calls} calls, {pairs} pairs: {}", self.pair_calls)?;
-        let calls = self.so_far_calls.total();
-        writeln!(out, "serpentgleam_amount_so_far: {calls} calls: {}", self.so_far_calls)?;
+        self.write_calls_on_lists(out)?;
         write!(out, "{} files, 0 differences", self.files)
     }
 }

@@ -63,6 +63,14 @@ extern "C" {
         room: usize,
         count: u64,
     ) -> Answer;
+    fn serpentgleam_take_apart(
+        file: *const u8,
+        length: usize,
+        lines: *mut Line,
+        room: usize,
+        count: u64,
+        k: u64,
+    ) -> Answer;
 }
 
 type MarginEntry = unsafe extern "C" fn(*const u8, usize, *mut Line, usize) -> Margin;
@@ -116,6 +124,14 @@ pub fn amount_so_far(file: &[u8], list: &[Line], count: u64) -> Answer {
     let lines = if list.is_empty() { null() } else { list.as_ptr() };
     // SAFETY: the file and the list are as long as is said.
     unsafe { serpentgleam_amount_so_far(start_of(file), file.len(), lines, list.len(), count) }
+}
+
+/// Removes the latest `k` of the first `count` lines of the list, whose entries become zeros, and gives how many are left.
+#[inline]
+pub fn take_apart(file: &[u8], list: &mut [Line], count: u64, k: u64) -> Answer {
+    let lines = if list.is_empty() { null_mut() } else { list.as_mut_ptr() };
+    // SAFETY: the file and the list are as long as is said, and do not overlap.
+    unsafe { serpentgleam_take_apart(start_of(file), file.len(), lines, list.len(), count, k) }
 }
 
 /// Entries of an earlier archive, by the names that bench/against gives them. They are declared as today's are, so an archive

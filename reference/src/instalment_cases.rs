@@ -1,7 +1,7 @@
 //! Calls one after the other on one list, as bytes, and what is printed for
 //! them.
 
-use crate::instalments::{amount_so_far, pair_into};
+use crate::instalments::{amount_so_far, pair_into, take_apart_in};
 use crate::lines::Entry;
 use crate::reader::Refusal;
 
@@ -9,9 +9,10 @@ use crate::reader::Refusal;
 pub enum Call {
     Pair { count: u64, allowance: u64 },
     Amount { count: u64 },
+    Apart { count: u64, k: u64 },
 }
 
-/// The pairs made or the amount, or the refusal.
+/// The pairs made, the amount or the pairs left, or the refusal.
 pub type Answer = Result<u64, Refusal>;
 
 /// The first `room` entries are handed over as the list, and those after them
@@ -25,11 +26,18 @@ pub struct Case {
 }
 
 impl Call {
+    /// The lines that are said to be in the list.
+    pub fn count(&self) -> u64 {
+        let (Call::Pair { count, .. } | Call::Amount { count } | Call::Apart { count, .. }) = *self;
+        count
+    }
+
     /// The answer; the list is left as the call leaves it.
     pub fn answer(&self, file: &[u8], list: &mut [Entry]) -> Answer {
         match *self {
             Call::Pair { count, allowance } => pair_into(file, list, count, allowance),
             Call::Amount { count } => amount_so_far(file, list, count).map(|amount| amount as u64),
+            Call::Apart { count, k } => take_apart_in(file, list, count, k),
         }
     }
 
@@ -37,13 +45,15 @@ impl Call {
         match *self {
             Call::Pair { count, allowance } => [0, count, allowance],
             Call::Amount { count } => [1, count, 0],
+            Call::Apart { count, k } => [2, count, k],
         }
     }
 
-    fn of_numbers([call, count, allowance]: [u64; 3]) -> Call {
+    fn of_numbers([call, count, third]: [u64; 3]) -> Call {
         match call {
-            0 => Call::Pair { count, allowance },
-            _ => Call::Amount { count },
+            0 => Call::Pair { count, allowance: third },
+            1 => Call::Amount { count },
+            _ => Call::Apart { count, k: third },
         }
     }
 }
@@ -60,14 +70,16 @@ impl Case {
         answers
     }
 
-    /// For each call a line, `made`, `amount` or `refused` with number and row,
-    /// then all entries, each in a line; after the last call an empty line.
+    /// For each call a line, `made`, `amount`, `count` or `refused` with number
+    /// and row, then all entries, each in a line; after the last call an empty
+    /// line.
     pub fn output(&self) -> String {
         let mut text = String::new();
         for (call, (answer, entries)) in self.calls.iter().zip(self.answers()) {
             text += &match (answer, call) {
                 (Ok(made), Call::Pair { .. }) => format!("made {made}\n"),
                 (Ok(amount), Call::Amount { .. }) => format!("amount {amount}\n"),
+                (Ok(count), Call::Apart { .. }) => format!("count {count}\n"),
                 (Err(Refusal { number, row }), _) => format!("refused {number} {row}\n"),
             };
             for entry in entries {
@@ -77,9 +89,9 @@ impl Case {
         text + "\n"
     }
 
-    /// Room, number of entries and number of calls; each call as 0 for pairs or
-    /// 1 for the amount, count and allowance; the entries; all of them numbers
-    /// of eight little-endian bytes. Then the file.
+    /// Room, number of entries and number of calls; each call as 0 for pairs, 1
+    /// for the amount or 2 for taking apart, count, and allowance or k; the
+    /// entries; all of them numbers of eight little-endian bytes. Then the file.
     pub fn bytes(&self) -> Vec<u8> {
         let mut numbers = vec![self.room, self.entries.len(), self.calls.len()]
             .into_iter()

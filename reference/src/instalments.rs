@@ -2,6 +2,9 @@
 //! the number of pair lines already in it, makes at most as many pairs as it is
 //! allowed, and reports how many it made." Between calls the account's amount
 //! may be asked for.
+//!
+//! Taking pairs apart (document 02 [8]): "The latest k pair lines are removed
+//! and their entries become all zeros. The count falls by k."
 
 use crate::account::Account;
 use crate::lines::{margin_with, pair_entry, Entry};
@@ -38,6 +41,15 @@ impl HalfPaired {
             made += 1;
         }
         made
+    }
+
+    /// Takes the latest `k` pairs apart, or all: their contracts are left again.
+    pub fn take_apart(&mut self, k: u64) {
+        let left = self.pairs.len().saturating_sub(k as usize);
+        for pair in self.pairs.split_off(left) {
+            self.contracts_left[pair.written] += pair.quantity;
+            self.contracts_left[pair.held] += pair.quantity;
+        }
     }
 
     /// "Pairs so far, every remainder by the amount of its left line (0 if
@@ -86,4 +98,19 @@ pub fn pair_into(
 /// The account's amount with the first `count` pairs, which are in the list.
 pub fn amount_so_far(bytes: &[u8], list: &[Entry], count: u64) -> Result<i64, Refusal> {
     Ok(read_half_paired(bytes, list, count)?.amount())
+}
+
+/// Removes the latest `k` of the first `count` lines, which are in the list, and
+/// gives how many are left. Their entries become zeros; every other entry
+/// stays, and on a refusal the whole list stays. 19 is checked after 18.
+pub fn take_apart_in(bytes: &[u8], list: &mut [Entry], count: u64, k: u64) -> Result<u64, Refusal> {
+    let mut half = read_half_paired(bytes, list, count)?;
+    if k > count {
+        return Err(Refusal { number: 19, row: 0 });
+    }
+    let before = half.pairs.len();
+    half.take_apart(k);
+    let left = half.pairs.len();
+    list[left..before].fill([0; 5]);
+    Ok(left as u64)
 }

@@ -17,7 +17,8 @@
 //! 9. [`factors`]: fa and fb from the code and the days
 //! 10. [`factors_list`]: what the factors program prints
 //! 11. [`day`]: a file brought up to date after the close
-//! 12. [`instalments`]: the pairs made a few at a time, and the amount between
+//! 12. [`instalments`]: the pairs made a few at a time, the amount between, and
+//!     the latest pairs taken apart
 //! 13. [`instalment_cases`]: calls one after the other on one list, and what is
 //!     printed for them
 //!

@@ -54,35 +54,47 @@ fn every_call_is_answered_as_it_was_made() {
 #[test]
 fn every_entry_after_every_call() {
     each_call(|Answered { call, answer, pairs, before, after, .. }| {
-        let (Call::Pair { count, .. }, Ok(made)) = (call, answer) else {
-            assert_eq!(before, after, "{call:?}");
-            return;
+        let written = match (call, answer) {
+            (Call::Pair { count, .. }, Ok(made)) => count..count + made,
+            (Call::Apart { count, .. }, Ok(left)) => left..count,
+            _ => 0..0,
         };
-        let (first, end) = (count as usize, (count + made) as usize);
         for at in 0..after.len() {
-            let expected =
-                if (first..end).contains(&at) { pair_entry(&pairs[at]) } else { before[at] };
+            let expected = match call {
+                _ if !written.contains(&(at as u64)) => before[at],
+                Call::Apart { .. } => [0; 5],
+                _ => pair_entry(&pairs[at]),
+            };
             assert_eq!(after[at], expected, "{call:?}, entry {at}");
         }
     });
 }
 
-/// Each refusal of both calls, those of a row at row 0 and at a later one.
+fn sort(call: Call) -> &'static str {
+    match call {
+        Call::Pair { .. } => "pair",
+        Call::Amount { .. } => "amount",
+        Call::Apart { .. } => "apart",
+    }
+}
+
+/// Each refusal of each call, those of a row at row 0 and at a later one.
 #[test]
 fn every_refusal() {
     let mut found = BTreeSet::new();
     each_call(|Answered { call, answer, .. }| {
         if let Err(Refusal { number, row }) = answer {
-            found.insert((matches!(call, Call::Pair { .. }), number, row > 0));
+            found.insert((sort(call), number, row > 0));
         }
     });
-    for pairs in [true, false] {
+    for sort in ["pair", "amount", "apart"] {
         for number in [1, 2, 4, 5, 6, 7, 8, 9, 10, 11, 12, 18] {
-            assert!(found.contains(&(pairs, number, false)), "{number}");
-            assert!(!(5..=11).contains(&number) || found.contains(&(pairs, number, true)));
+            assert!(found.contains(&(sort, number, false)), "{sort} {number}");
+            assert!(!(5..=11).contains(&number) || found.contains(&(sort, number, true)));
         }
     }
-    assert_eq!(found.len(), 2 * (12 + 7));
+    assert!(found.contains(&("apart", 19, false)));
+    assert_eq!(found.len(), 3 * (12 + 7) + 1);
 }
 
 /// Counts refused with 18: beside the pairs, beyond the list, and numbers whose
@@ -91,11 +103,10 @@ fn every_refusal() {
 fn counts_that_are_refused() {
     let mut beyond = BTreeSet::new();
     each_call(|Answered { call, answer, room, pairs, .. }| {
-        let (Call::Pair { count, .. } | Call::Amount { count }) = call;
         if answer != Err(Refusal { number: 18, row: 0 }) {
             return;
         }
-        let pairs = pairs.len() as u64;
+        let (count, pairs) = (call.count(), pairs.len() as u64);
         if count > pairs {
             let low_half = count % (1 << 32) <= pairs;
             beyond.insert((count - pairs == 1, count > room, low_half));
@@ -143,6 +154,35 @@ fn allowances_of_every_sort() {
     }
 }
 
+/// k below, at and above the count, 0, and such whose low bits alone would be
+/// accepted; above it with each refusal that comes before 19.
+#[test]
+fn ks_of_every_sort() {
+    let mut found = BTreeSet::new();
+    each_call(|Answered { call, answer, .. }| {
+        let Call::Apart { count, k } = call else { return };
+        let refused = answer.map_or_else(|refusal| refusal.number, |_| 0);
+        let cut = k >= 1 << 32 && k % (1 << 32) <= count;
+        found.insert((refused, k == 0, k.cmp(&count), cut));
+    });
+    for (refused, zero, order, cut) in [
+        (0, true, -1, false),
+        (0, true, 0, false),
+        (0, false, -1, false),
+        (0, false, 0, false),
+        (19, false, 1, false),
+        (19, false, 1, true),
+        (18, false, 1, false),
+        (18, false, 0, false),
+        (18, false, -1, false),
+        (12, false, 1, false),
+        (8, false, 1, false),
+    ] {
+        let sort = (refused, zero, order.cmp(&0), cut);
+        assert!(found.contains(&sort), "{sort:?}");
+    }
+}
+
 /// Accounts from no rows to 256, with up to 255 pairs, and amounts that a pair
 /// raises.
 #[test]
@@ -164,6 +204,18 @@ fn accounts_of_every_size() {
         }
     });
     assert!(raised > 5, "{raised} raised");
+}
+
+/// Behind the count, where pairs are taken apart: another pair line, a left
+/// line, zeros, and what is none of them.
+#[test]
+fn content_behind_the_pairs_taken_apart() {
+    let mut found = BTreeSet::new();
+    each_call(|Answered { call, answer, before, .. }| {
+        let (Call::Apart { count, k: 1.. }, Ok(_)) = (call, answer) else { return };
+        found.insert(before[count as usize][0].min(3));
+    });
+    assert_eq!(found, (0..=3).collect());
 }
 
 /// Entries handed over behind the lines, and entries behind those.
@@ -192,7 +244,7 @@ fn the_stored_files_are_up_to_date() {
         std::fs::read(folder.to_string() + name).expect(name)
     };
     let cases = all_instalments();
-    assert_eq!(cases.len(), 499);
+    assert_eq!(cases.len(), 631);
     assert!(stored("cases") == cases_bytes(&cases));
     assert!(stored("answers") == answers_text(&cases).into_bytes());
 }

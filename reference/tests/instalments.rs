@@ -2,7 +2,7 @@
 
 use reference::account::Account;
 use reference::draft::{example, file, held, written, Draft, SeriesDraft, CALL, PUT};
-use reference::instalments::{amount_so_far, pair_into, HalfPaired};
+use reference::instalments::{amount_so_far, pair_into, take_apart_in, HalfPaired};
 use reference::lines::{margin, margin_into, pair_entry, premiums, Entry};
 use reference::random::Random;
 use reference::reader::{read_account, Refusal};
@@ -22,12 +22,14 @@ const SMALL: Shape = Shape {
     fb_above_one: true,
 };
 
-/// The refusal of both calls with this allowance and others; the list stays.
+/// The refusal of all calls with this count, whatever the allowance or k; the
+/// list stays.
 fn refusal(bytes: &[u8], list: &[Entry], count: u64) -> (i64, usize) {
     let mut lent = list.to_vec();
     let refusal = amount_so_far(bytes, list, count).expect_err("refused");
     for allowance in [0, 1, 2, 256, 1 << 32, u64::MAX - count, u64::MAX] {
         assert_eq!(pair_into(bytes, &mut lent, count, allowance), Err(refusal), "{allowance}");
+        assert_eq!(take_apart_in(bytes, &mut lent, count, allowance), Err(refusal), "{allowance}");
         assert_eq!(lent, list);
     }
     let Refusal { number, row } = refusal;

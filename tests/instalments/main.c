@@ -1,13 +1,14 @@
 /*
  * Makes the calls for instalments that stand in a file of cases, and prints their answers.
  *
- * instalments < cases    prints for each call a line, `made` or `amount` with the value, or `refused` with number and row;
- *                        then all entries, each in a line; after the last call of a case an empty line. Exit status 1
- *                        where a case is cut off, or a call wrote to its file.
+ * instalments < cases    prints for each call a line, `made`, `amount` or `count` with the value, or `refused` with number
+ *                        and row; then all entries, each in a line; after the last call of a case an empty line. Exit
+ *                        status 1 where a case is cut off, or a call wrote to its file.
  *
- * A case is its length in four little-endian bytes, then numbers of eight: room, entries, calls; of each call 0 for pairs or
- * 1 for the amount, count and allowance; of each entry its five. The rest is the account file. The first `room` entries are
- * handed over as the list, with room 0 as NULL, and each call gets them as the one before it left them.
+ * A case is its length in four little-endian bytes, then numbers of eight: room, entries, calls; of each call 0 for pairs, 1
+ * for the amount or 2 for taking apart, count, and allowance or k; of each entry its five. The rest is the account file. The
+ * first `room` entries are handed over as the list, with room 0 as NULL, and each call gets them as the one before it left
+ * them.
  */
 #include "serpentgleam.h"
 
@@ -89,8 +90,10 @@ static void make_calls(const uint64_t *calls, uint64_t count, const uint8_t *fil
 
         if (call[0] == 0)
             print_answer(serpentgleam_pair(file, length, list, room, call[1], call[2]), "made");
-        else
+        else if (call[0] == 1)
             print_answer(serpentgleam_amount_so_far(file, length, list, room, call[1]), "amount");
+        else
+            print_answer(serpentgleam_take_apart(file, length, list, room, call[1], call[2]), "count");
         print_entries(entries, entry_count);
     }
     printf("\n");

@@ -26,7 +26,7 @@ fn main() -> ExitCode {
 /// Cases by group, and calls by outcome.
 fn report(cases: &[Instalments]) {
     let mut groups: Vec<(&str, usize)> = Vec::new();
-    let (mut made, mut amounts, mut refused) = (0, 0, [0; 19]);
+    let (mut made, mut amounts, mut apart, mut refused) = (0, 0, 0, [0; 20]);
     for Instalments { group, case, .. } in cases {
         match groups.iter_mut().find(|(known, _)| known == group) {
             Some((_, count)) => *count += 1,
@@ -36,6 +36,7 @@ fn report(cases: &[Instalments]) {
             match (answer, call) {
                 (Ok(_), Call::Pair { .. }) => made += 1,
                 (Ok(_), Call::Amount { .. }) => amounts += 1,
+                (Ok(_), Call::Apart { .. }) => apart += 1,
                 (Err(refusal), _) => refused[refusal.number as usize] += 1,
             }
         }
@@ -43,7 +44,7 @@ fn report(cases: &[Instalments]) {
     for (group, count) in groups {
         println!("{count:5} {group}");
     }
-    println!("{made:5} calls that pair\n{amounts:5} amounts");
+    println!("{made:5} calls that pair\n{amounts:5} amounts\n{apart:5} calls that take apart");
     for (number, count) in refused.iter().enumerate().filter(|(_, count)| **count > 0) {
         println!("{count:5} refused {number}");
     }

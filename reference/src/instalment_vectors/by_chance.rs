@@ -1,7 +1,7 @@
 //! Accounts, allowances and lists by chance.
 
 use super::lists::Lent;
-use super::{Asked, Cases, SEED};
+use super::{above_count, apart, Asked, Cases, SEED};
 use crate::instalment_cases::Call;
 use crate::instalments::HalfPaired;
 use crate::lines::{pair_entry, Entry};
@@ -96,8 +96,41 @@ pub fn add_spoiled(cases: &mut Cases) {
         let asked = vec![
             (Call::Pair { count: asked_of, allowance }, None),
             (Call::Amount { count: asked_of }, None),
+            (Call::Apart { count: asked_of, k: allowance }, None),
             (Call::Pair { count: line as u64, allowance }, None),
         ];
         cases.add_bytes(number.to_string(), file, Lent::with(&lines, rows), asked);
     }
+}
+
+/// Pairs made and taken apart by turns.
+pub fn add_apart(cases: &mut Cases) {
+    cases.begin("random, taken apart");
+    let mut random = Random::new(SEED + 3);
+    for number in 0..60 {
+        let shape = random.pick(&[SMALL, WIDE, MIDDLE]);
+        let (file, rows, lines) = drawn(&mut random, &shape, 2);
+        let asked = by_turns(&mut random, lines.len() as u64);
+        let room = rows + random.between(0, 1) as usize;
+        cases.add_bytes(number.to_string(), file, Lent::marked(room), asked);
+    }
+}
+
+fn by_turns(random: &mut Random, pairs: u64) -> Vec<Asked> {
+    let (mut count, mut asked) = (0, Vec::new());
+    for _ in 0..3 {
+        let allowance = random.pick(&[1, 2, 3, pairs, u64::MAX]);
+        let more = allowance.min(pairs - count);
+        asked.push((Call::Pair { count, allowance }, Some(Ok(more))));
+        count += more;
+        if random.chance(30) {
+            let above = random.draw().max(count + 1);
+            asked.push(above_count(count, random.pick(&[count + 1, above])));
+        }
+        let k = random.between(0, count as i64) as u64;
+        asked.push(apart(count, k));
+        count -= k;
+        asked.push((Call::Amount { count }, None));
+    }
+    asked
 }

@@ -6,6 +6,7 @@
 
 mod accounts;
 mod allowances;
+mod apart;
 mod by_chance;
 mod counts;
 mod example;
@@ -74,10 +75,25 @@ fn amount(count: u64, centavos: u64) -> Asked {
     (Call::Amount { count }, Some(Ok(centavos)))
 }
 
-/// Both calls with this count, refused at row 0.
+/// A call that takes so many pairs apart.
+fn apart(count: u64, k: u64) -> Asked {
+    (Call::Apart { count, k }, Some(Ok(count - k)))
+}
+
+/// A call that would take more apart than there are.
+fn above_count(count: u64, k: u64) -> Asked {
+    (Call::Apart { count, k }, Some(Err(Refusal { number: 19, row: 0 })))
+}
+
+/// All calls with this count, refused at row 0.
 fn refused(count: u64, allowance: u64, number: i64) -> Vec<Asked> {
     let refusal = Some(Err(Refusal { number, row: 0 }));
-    vec![(Call::Pair { count, allowance }, refusal), (Call::Amount { count }, refusal)]
+    all_calls(count, allowance).map(|call| (call, refusal)).to_vec()
+}
+
+/// With this count; the allowance is k too.
+fn all_calls(count: u64, allowance: u64) -> [Call; 3] {
+    [Call::Pair { count, allowance }, Call::Amount { count }, Call::Apart { count, k: allowance }]
 }
 
 /// All cases, in a fixed order.
@@ -98,6 +114,10 @@ pub fn all_instalments() -> Vec<Instalments> {
         many_rows::add,
         by_chance::add,
         by_chance::add_spoiled,
+        apart::add,
+        apart::add_above,
+        apart::add_order,
+        by_chance::add_apart,
     ] {
         add(&mut cases);
     }

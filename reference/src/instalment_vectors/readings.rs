@@ -1,7 +1,7 @@
 //! The reading's refusals, which come before those of the list and its lines.
 
 use super::lists::Lent;
-use super::{Asked, Cases};
+use super::{all_calls, Asked, Cases};
 use crate::instalment_cases::Call;
 use crate::reader::Refusal;
 use crate::vectors::put_fault;
@@ -34,6 +34,8 @@ pub fn add(cases: &mut Cases) {
         (Call::Pair { count: 0, allowance: 1 }, Some(Ok(1))),
         (Call::Pair { count: 1, allowance: 1 }, Some(Ok(0))),
         (Call::Amount { count: 1 }, None),
+        (Call::Apart { count: 1, k: 2 }, Some(Err(Refusal { number: 19, row: 0 }))),
+        (Call::Apart { count: 1, k: 1 }, Some(Ok(0))),
     ];
     cases.add("sound", &sound(), Lent::marked(5), asked);
     let mut draft = sound();
@@ -41,13 +43,12 @@ pub fn add(cases: &mut Cases) {
     cases.add("65,537 bytes", &draft, Lent::with(&[PAIR], 5), calls(1, 0));
 }
 
-/// Counts and allowances that are right, and others, all refused alike.
+/// Counts, allowances and k that are right, and others, all refused alike.
 fn calls(number: i64, row: usize) -> Vec<Asked> {
     let refusal = Some(Err(Refusal { number, row }));
     let mut asked = Vec::new();
     for (count, allowance) in [(0, 0), (0, 1), (1, u64::MAX), (2, 0), (u64::MAX, u64::MAX)] {
-        asked.push((Call::Pair { count, allowance }, refusal));
-        asked.push((Call::Amount { count }, refusal));
+        asked.extend(all_calls(count, allowance).map(|call| (call, refusal)));
     }
     asked
 }
