@@ -1,7 +1,7 @@
 #!/usr/bin/env bash
 # Builds the static library unless SERPENTGLEAM_LIBRARY names one, compiles the C clients with warnings as errors, runs
-# them on the example accounts, on codes and days and on days of a series, and compares what they print with
-# clients/expected.txt.
+# them on the example accounts, on codes and days, on days of a series and on sales of a held row, and compares what they
+# print with clients/expected.txt.
 set -eu
 cd "$(dirname "$0")/.."
 bash library/prove.sh
@@ -29,5 +29,9 @@ for account in examples/*.account; do
     printf '%s in instalments\n' "${account#examples/}"
     target/instalments "$account" || true
 done >> target/clients.out
+while read -r account row sold; do
+    printf '%s in instalments, %s %s\n' "$account" "$row" "$sold"
+    target/instalments "examples/$account" "$row" "$sold" 2>&1 || true
+done < clients/sale_questions.txt >> target/clients.out
 diff clients/expected.txt target/clients.out
 echo "clients: $(wc -l < clients/expected.txt) lines as expected"

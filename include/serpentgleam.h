@@ -6,13 +6,13 @@
  *
  * The library has no state, takes no memory from a heap, starts no thread and calls nothing of the operating system: every
  * call may be made from any thread, and calls on different threads do not affect each other. A call that takes a file needs
- * about 30 KB of stack or less, the one for factors about 8 KB.
+ * about 30 KB of stack or less, but serpentgleam_take_apart about 37 KB or less, and the one for factors about 8 KB.
  *
  * It reads the bytes handed over during the call alone and keeps no pointer to them; the caller owns them before, during
  * and after. It writes nothing to a file's bytes, except in serpentgleam_day, which writes to the bytes lent to it during
  * the call alone: until it is done they must not be handed to another call. The same holds of a list of lines, which
- * serpentgleam_margin and serpentgleam_pair write during the call alone; serpentgleam_pair and serpentgleam_amount_so_far
- * read it. It must not overlap the file's bytes.
+ * serpentgleam_margin, serpentgleam_pair and serpentgleam_take_apart write during the call alone; the last two and
+ * serpentgleam_amount_so_far read it. It must not overlap the file's bytes.
  *
  * An account file has at most 65,536 bytes. Any bytes may be handed over: a file that is not in order is refused, and
  * nothing is read or written outside it. With length 0 the pointer may be NULL.
@@ -22,7 +22,7 @@
  * rounded up to one centavo: with the same calls, structs and shared object's name, the amount of a line or of a written
  * position is now 0 to 99 centavos more. Which library is installed is said by `pkg-config --modversion serpentgleam`.
  *
- * A refusal is a number from 1 to 18, below with a name for each; serpentgleam_refusal_sentence gives its sentence. The
+ * A refusal is a number from 1 to 19, below with a name for each; serpentgleam_refusal_sentence gives its sentence. The
  * numbers 3 and 15 are not used. An account without positions is accepted, with no lines, premiums 0 and total 0.
  */
 #ifndef SERPENTGLEAM_H
@@ -32,9 +32,9 @@
 #include <stdint.h>
 
 /* The version of this header and of the library that it came with. */
-#define SERPENTGLEAM_VERSION "0.7.0"
+#define SERPENTGLEAM_VERSION "0.8.0"
 #define SERPENTGLEAM_VERSION_MAJOR 0
-#define SERPENTGLEAM_VERSION_MINOR 7
+#define SERPENTGLEAM_VERSION_MINOR 8
 #define SERPENTGLEAM_VERSION_PATCH 0
 
 /* Limits of every account: bytes of its file, series, positions, and lines of its margin. */
@@ -71,6 +71,7 @@
 #define SERPENTGLEAM_REFUSED_SERIES_ASKED_FOR 16
 #define SERPENTGLEAM_REFUSED_DAY_PRICES 17
 #define SERPENTGLEAM_REFUSED_NOT_FIRST_PAIRS 18
+#define SERPENTGLEAM_REFUSED_ABOVE_COUNT 19
 
 #ifdef __cplusplus
 extern "C" {
@@ -112,6 +113,8 @@ static inline const char *serpentgleam_refusal_sentence(uint64_t number)
         return "the day's prices: high below low, close outside them, or one of the three not 1 to 10,000,000";
     case SERPENTGLEAM_REFUSED_NOT_FIRST_PAIRS:
         return "the lines in the list are not the account's first pairs";
+    case SERPENTGLEAM_REFUSED_ABOVE_COUNT:
+        return "more pairs to take apart than there are in the list";
     default:
         return "there is no refusal of this number";
     }
@@ -275,6 +278,27 @@ struct serpentgleam_answer serpentgleam_pair(const uint8_t *file, size_t length,
  */
 struct serpentgleam_answer serpentgleam_amount_so_far(const uint8_t *file, size_t length, const struct serpentgleam_line *lines,
                                                       size_t room, uint64_t count);
+
+/*
+ * Takes pairs apart, as when a client sells a held option during the day: removes the latest k pair lines of an account that
+ * is paired in instalments. Their contracts are left again in their rows, and their entries become all zeros.
+ *
+ * file, length, lines, room, count: as for serpentgleam_pair. The file is still the one that the pairs were made of.
+ * k: how many pairs are taken apart, the latest ones. With 0 none is.
+ *
+ * The value is how many pair lines are then in the list, count - k, and the next call has it as its count. The five numbers
+ * of each of the entries from value to count - 1 become 0. Every other entry keeps its content.
+ *
+ * Promised: where serpentgleam_pair made some pairs, taking apart as many gives back the former count and the former
+ * contracts left in every row, and pairing with the same allowance again writes the same lines. What stood in their entries
+ * before the pairs were made does not come back.
+ *
+ * Answers the value, or the refusal: those of serpentgleam_pair in their order; then SERPENTGLEAM_REFUSED_ABOVE_COUNT, with
+ * row 0, where k is above count. On a refusal every entry keeps its content. Any count and any k may be handed over. A call
+ * takes at most about as long as serpentgleam_margin does.
+ */
+struct serpentgleam_answer serpentgleam_take_apart(const uint8_t *file, size_t length, struct serpentgleam_line *lines,
+                                                   size_t room, uint64_t count, uint64_t k);
 
 #ifdef __cplusplus
 }

@@ -13,7 +13,7 @@ use bench::timing::{measure, measure_each, rounds_asked};
 use bench::ways::{lanes, repeated_search, tournament};
 use reference::day::{apply_day, Day};
 use reference::factors::Factors;
-use reference::instalments::{amount_so_far, pair_into};
+use reference::instalments::{amount_so_far, pair_into, take_apart_in};
 use reference::lines::{margin_into_by, Entry};
 use reference::position::one_position;
 use reference::reader::Refusal;
@@ -257,6 +257,51 @@ fn instalment_table(rounds: usize) {
     }
 }
 
+/// Of the list with all pairs the last `k` are taken apart as by the reference, and pairing again gives the list.
+fn compare_apart(file: &[u8], list: &List, count: u64, k: u64) {
+    let [mut apart, mut expected] = [*list; 2];
+    let left = value(library::take_apart(file, &mut apart, count, k));
+    assert!(left == take_apart_in(file, &mut expected, count, k) && apart == expected);
+    assert!(left == Ok(count - k));
+    assert!(value(library::pair(file, &mut apart, count - k, k)) == Ok(k) && apart == *list);
+}
+
+/// Times of one margin, of the call that makes the last `k` pairs, and of the one that takes them apart. Before this one their
+/// lines are put back into the list, and that is included.
+fn apart_times(rounds: usize, file: &[u8], whole: &List, count: usize, k: usize) -> [f64; 3] {
+    let (left, list) = (count - k, &RefCell::new(*whole));
+    let margin = || {
+        black_box(library::margin(black_box(file), &mut *list.borrow_mut()));
+    };
+    let pair = || {
+        black_box(library::pair(black_box(file), &mut *list.borrow_mut(), left as u64, k as u64));
+    };
+    let take_apart = || {
+        let list = &mut *list.borrow_mut();
+        list[left..count].copy_from_slice(&whole[left..count]);
+        black_box(library::take_apart(black_box(file), list, count as u64, k as u64));
+    };
+    measure(rounds, [&margin, &pair, &take_apart])
+}
+
+fn apart_table(rounds: usize) {
+    println!("\n### Taking pairs apart\n");
+    println!("256 rows, of all pairs the last {ALLOWANCE}, or all where there are fewer.\n");
+    print!("| shape | pairs | margin | pairing | taking apart");
+    println!(" | apart / pairing | apart / margin |");
+    println!("|---|---|---|---|---|---|---|");
+    for shape in SHAPES.iter().filter(|shape| shape.pairs) {
+        let (file, mut list) = (&account(shape, 256), [Entry::default(); 256]);
+        engine(file, &mut list).expect("the engine's margin");
+        let pairs = pairs_in(&list);
+        let k = pairs.min(ALLOWANCE as usize);
+        compare_apart(file, &list, pairs as u64, k as u64);
+        let [margin, pair, apart] = apart_times(rounds, file, &list, pairs, k);
+        print!("| {} | {pairs} | {margin:.1} | {pair:.1} | {apart:.1}", shape.name);
+        println!(" | {:.2} | {:.2} |", apart / pair, apart / margin);
+    }
+}
+
 fn main() {
     let rounds = rounds_asked(30);
     println!("Microseconds a call, the best of {rounds} bursts of a millisecond each.");
@@ -266,4 +311,5 @@ fn main() {
     factors_table(rounds);
     day_table(rounds);
     instalment_table(rounds);
+    apart_table(rounds);
 }

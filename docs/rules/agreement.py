@@ -1,5 +1,5 @@
 """Where hand arithmetic and product meet: what the product prints, if it is what the hand arithmetic says."""
-from . import instalments, product
+from . import apart, instalments, product
 from .day import refused, text_after
 from .pairing import answer_of
 from .product import file_after, file_from_text, printed
@@ -57,3 +57,9 @@ def agreed_amount(text, entries, count):
     """What serpentgleam_amount_so_far answers for them."""
     return same(f'{text}{entries} {count}', product.amount_so_far(file_from_text(text), entries, count),
                 instalments.amount_so_far(rows_from(text), entries, count))
+
+
+def agreed_apart(text, entries, count, k):
+    """What serpentgleam_take_apart answers for them and a number of pairs, and the list after it."""
+    return same(f'{text}{entries} {count} {k}', product.taken_apart(file_from_text(text), entries, count, k),
+                apart.taken_apart(rows_from(text), entries, count, k))

@@ -2,7 +2,7 @@
 import re
 from typing import NamedTuple
 
-from .terms import BARRIERS, bare_lines, rows_from, values_of
+from .terms import BARRIERS, bare_lines, is_position, rows_from, values_of
 
 MOST = 10_000_000
 FLAG_WORDS = {'up-and-in': 'knocked-in', 'down-and-in': 'knocked-in', 'up-and-out': 'knocked-out',
@@ -27,11 +27,6 @@ class After(NamedTuple):
     def text(self):
         """The line after the day."""
         return f'{self.line} {self.added}'.rstrip()
-
-
-def is_position(line):
-    """Whether a line is that of a position row."""
-    return line.startswith(('held', 'written'))
 
 
 def touch(row, day):

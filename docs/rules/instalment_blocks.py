@@ -1,14 +1,13 @@
 """The page's part on instalments: amounts between calls, calls with their lists, and the cover of a half-paired account."""
 from .agreement import agreed_amount, agreed_amounts, agreed_call, same
 from .examples import account_bytes, account_text_of
-from .instalments import amount_after, counts_between
+from .instalments import NO_LINE, amount_after, counts_between
 from .pairing import answer_of, steps_of
 from .pictures import payoff
 from .product import file_from_text
 from .steps import table
 from .terms import rows_from
 
-NO_LINE = (0, 0, 0, 0, 0)
 AMOUNTS_HEAD = ['Pairs so far', 'Pairs that the call made', 'Written contracts left',
                 'Amount so far: pairs, contracts left, premiums', '`serpentgleam instalments` prints']
 CALLS_HEAD = ['Count', 'Allowance', 'Pairs made', 'List after the call', 'Amount so far then']
@@ -32,6 +31,16 @@ def cell(lines):
 def entries_cell(entries):
     """Entries of a list, each in its own line."""
     return cell('`' + ' '.join(map(str, entry)) + '`' for entry in entries)
+
+
+def entries_in(listed):
+    """The entries of a list that a block names."""
+    return [] if listed == 'none' else [tuple(map(int, entry.split())) for entry in listed.split(', ')]
+
+
+def answer_cell(answer):
+    """A number as it is, a refusal as what is printed."""
+    return f'`{answer}`' if answer.startswith('refused') else answer
 
 
 def amount_cells(rows, before, count):
@@ -74,10 +83,9 @@ def lists_table(block):
     text, cells = named(name), []
     for line in lines:
         listed, count, why = line.split('; ')
-        entries = [] if listed == 'none' else [tuple(map(int, entry.split())) for entry in listed.split(', ')]
+        entries = entries_in(listed)
         answers = [agreed_call(text, entries, int(count), 1)[0], agreed_amount(text, entries, int(count))]
-        answers = [f'`{answer}`' if answer.startswith('refused') else answer for answer in answers]
-        cells.append((entries_cell(entries), f'{int(count):,}', why, *answers))
+        cells.append((entries_cell(entries), f'{int(count):,}', why, *map(answer_cell, answers)))
     return table(LISTS_HEAD, cells)
 
 

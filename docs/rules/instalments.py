@@ -2,6 +2,7 @@
 from .pairing import answer_of
 
 PAIR = 1  # the first of a pair line's five numbers
+NO_LINE = (0, 0, 0, 0, 0)
 
 
 def pair_entries(rows):

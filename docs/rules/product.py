@@ -1,5 +1,5 @@
 """The product's answers: an account's text made into its file, what the proved programs print, and what the library's
-calls for instalments answer.
+calls for instalments and for taking pairs apart answer.
 """
 import ctypes
 import subprocess
@@ -57,10 +57,10 @@ def file_after(file, day):
     return line.decode('ascii'), after.removesuffix(b'\n')
 
 
-def instalment_calls():
-    """The library's calls for instalments, from its shared object."""
+def found(calls):
+    """Calls that the library's shared object has."""
     try:
-        return library.instalment_calls()
+        return calls()
     except library.NotFound as missing:
         sys.exit(str(missing))
 
@@ -76,21 +76,32 @@ def in_list(entries):
     return (ctypes.c_uint64 * len(numbers))(*numbers)
 
 
+def answer_and_list(call, file, entries, *numbers):
+    """What a call that writes to the list answers, and the list after it."""
+    lines, size = in_list(entries), library.LINE_NUMBERS
+    answer = told(call(file, len(file), lines, len(entries), *numbers))
+    return answer, [tuple(lines[at:at + size]) for at in range(0, len(lines), size)]
+
+
 def paired(file, entries, count, allowance):
     """What serpentgleam_pair answers, and the list after it."""
-    lines, size = in_list(entries), library.LINE_NUMBERS
-    answer = told(instalment_calls().pair(file, len(file), lines, len(entries), count, allowance))
-    return answer, [tuple(lines[at:at + size]) for at in range(0, len(lines), size)]
+    return answer_and_list(found(library.instalment_calls).pair, file, entries, count, allowance)
+
+
+def taken_apart(file, entries, count, k):
+    """What serpentgleam_take_apart answers, and the list after it."""
+    return answer_and_list(found(library.take_apart_call), file, entries, count, k)
 
 
 def amount_so_far(file, entries, count):
     """What serpentgleam_amount_so_far answers."""
-    return told(instalment_calls().amount_so_far(file, len(file), in_list(entries), len(entries), count))
+    call = found(library.instalment_calls).amount_so_far
+    return told(call(file, len(file), in_list(entries), len(entries), count))
 
 
 def instalments_printed(name, allowance):
     """The lines that the command prints for an account file, by its path from the top, without the file's name."""
-    instalment_calls()
+    found(library.instalment_calls)
     words = [sys.executable, ROOT / 'python' / 'bin' / 'serpentgleam', 'instalments', name, str(allowance)]
     run = subprocess.run(words, capture_output=True, check=True, cwd=ROOT)
     return [line.split('\t')[1] for line in run.stdout.decode('utf-8').splitlines()]

@@ -73,15 +73,16 @@ def refusal_table(_):
     lines = ['| Number | Given for | Example | `margin` prints |', '|---|---|---|---|']
     lines += [f'| {number} | {given} | {example} | {answer(example, file(), f"refused {number} {row}")} |'
               for number, given, example, file, row in REFUSALS]
-    lines += ['| 12 | Line list: fewer than p entries | C calls `serpentgleam_margin`, `serpentgleam_pair` and '
-              '`serpentgleam_amount_so_far` alone | |',
+    lines += ['| 12 | Line list: fewer than p entries | C calls `serpentgleam_margin`, `serpentgleam_pair`, '
+              '`serpentgleam_amount_so_far` and `serpentgleam_take_apart` alone | |',
               '| 13 | Row asked for: p or above | C call `serpentgleam_position_amount` alone | |',
               '| 14 | Factors asked for: n above 1,800, or code not 0 to 3 | C call `serpentgleam_factors` alone | |',
               '| 16 | Day: series not in the account | C call `serpentgleam_day` alone | |',
               '| 17 | Day: high below low, close outside them, or one of the three not 1 to 10,000,000 | C call '
               '`serpentgleam_day` alone | |',
               "| 18 | Instalments: the lines in the list are not the account's first pairs | C calls "
-              '`serpentgleam_pair` and `serpentgleam_amount_so_far` alone | |',
+              '`serpentgleam_pair`, `serpentgleam_amount_so_far` and `serpentgleam_take_apart` alone | |',
+              '| 19 | Taking apart: k above the count | C call `serpentgleam_take_apart` alone | |',
               '', '| File | `margin` prints |', '|---|---|']
     lines += [f'| {example} | {answer(example, file(), expected)} |' for example, file, expected in OTHER_FILES]
     return '\n'.join(lines)

@@ -1,6 +1,6 @@
 """The pairing of an account as tables: its pairs in the order of choice, the pairs made, the printed lines."""
 from .pairing import pairs_of, steps_of
-from .terms import shown
+from .terms import is_position, shown
 
 ROW_WIDTH = 52  # after it the comment with the row's number, unless a row is longer
 
@@ -16,7 +16,7 @@ def account_text(block):
     lines, number = block.strip('\n').split('\n'), 0
     width = max([ROW_WIDTH] + [len(line) for line in lines])
     for at, line in enumerate(lines):
-        if line.startswith(('held', 'written')):
+        if is_position(line):
             lines[at] = f'{line:<{width}}  # row {number}'
             number += 1
     return '\n'.join(lines)

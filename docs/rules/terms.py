@@ -88,6 +88,11 @@ def bare_lines(text):
     return [line for line in (line.split('#')[0].strip() for line in text.splitlines()) if line]
 
 
+def is_position(line):
+    """Whether a line is that of a position row."""
+    return line.startswith(('held', 'written'))
+
+
 def rows_from(text):
     """The position rows of an account's text, each with its series."""
     lines = [line.split() for line in bare_lines(text) if not line.startswith('cover')]

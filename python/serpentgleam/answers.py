@@ -18,6 +18,7 @@ REASONS = {  # 3 and 15 are not used; 3 was for an account without positions, wh
     16: 'there is no series of the number asked for',
     17: "the day's prices: high below low, close outside them, or one of the three not 1 to 10,000,000",
     18: "the lines in the list are not the account's first pairs",
+    19: 'more pairs to take apart than there are in the list',
 }
 NO_SUCH_REFUSAL = 'there is no refusal of this number'
 
@@ -67,7 +68,8 @@ class Refusal(NamedTuple):
 
 
 class Refused(Exception):
-    """A file or a question is refused, a day's prices, or pairs that are not the first. Has number, row and reason."""
+    """A file or a question is refused, a day's prices, pairs that are not the first, or more to take apart than there
+    are. Has number, row and reason."""
 
     def __init__(self, refusal: Refusal):
         super().__init__(refusal)

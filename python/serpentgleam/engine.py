@@ -1,5 +1,5 @@
 """The questions to the proved library: an account's margin, one position's amount, the factors of a series, an account
-file after a day, and an account's pairs in instalments.
+file after a day, and an account's pairs in instalments, made and taken apart.
 """
 import ctypes
 import operator
@@ -159,6 +159,12 @@ def list_with(pairs: Sequence[Pair]):
     return lines
 
 
+def pairs_in(lines, first: int, end: int) -> Tuple[Pair, ...]:
+    """The pairs in the list's entries from the first on and before the end."""
+    places = range(first * library.LINE_NUMBERS, end * library.LINE_NUMBERS, library.LINE_NUMBERS)
+    return tuple(Pair(*lines[at + 1:at + library.LINE_NUMBERS]) for at in places)
+
+
 def pair_or_refusal(data: bytes, pairs: Sequence[Pair], allowance: int) -> Union[Tuple[Pair, ...], Refusal]:
     """The next pairs, or the refusal: for runs over many files, in which no refusal is raised."""
     data, lines, count = as_bytes(data), list_with(pairs), len(pairs)
@@ -166,8 +172,7 @@ def pair_or_refusal(data: bytes, pairs: Sequence[Pair], allowance: int) -> Union
     answer = library.instalment_calls().pair(data, len(data), lines, library.MOST_LINES, count, allowance)
     if answer.refusal:
         return Refusal(answer.refusal, answer.row)
-    places = range(count * library.LINE_NUMBERS, (count + answer.value) * library.LINE_NUMBERS, library.LINE_NUMBERS)
-    return tuple(Pair(*lines[at + 1:at + library.LINE_NUMBERS]) for at in places)
+    return pairs_in(lines, count, count + answer.value)
 
 
 def pair(data: bytes, pairs: Sequence[Pair], allowance: int) -> Tuple[Pair, ...]:
@@ -206,6 +211,34 @@ def amount_so_far(data: bytes, pairs: Sequence[Pair]) -> int:
     [25300, 17800, 10800]
     """
     answer = amount_so_far_or_refusal(data, pairs)
+    if isinstance(answer, Refusal):
+        raise Refused(answer)
+    return answer
+
+
+def take_apart_or_refusal(data: bytes, pairs: Sequence[Pair], k: int) -> Union[Tuple[Pair, ...], Refusal]:
+    """The pairs left, or the refusal: for runs over many files, in which no refusal is raised."""
+    data, lines = as_bytes(data), list_with(pairs)
+    k = number_for_call(k, 'how many pairs to take apart is a number')
+    answer = library.take_apart_call()(data, len(data), lines, library.MOST_LINES, len(pairs), k)
+    return Refusal(answer.refusal, answer.row) if answer.refusal else pairs_in(lines, 0, answer.value)
+
+
+def take_apart(data: bytes, pairs: Sequence[Pair], k: int) -> Tuple[Pair, ...]:
+    """The pairs that are left of an account's first pairs when the latest k are taken apart, as when a client sells a
+    held option during the day: all but the last k of those handed over. Pairs that pair gave can be taken apart, and
+    pair then gives the same ones again. Raises Refused as pair does, and where there are fewer than k pairs (19).
+
+    >>> with open('examples/document.account', 'rb') as file:
+    ...     data = file.read()
+    >>> pairs = margin(data).pairs
+    >>> left = take_apart(data, pairs, 1)
+    >>> left
+    (Pair(written=0, held=2, contracts=3, amount=0),)
+    >>> left + pair(data, left, 1) == pairs
+    True
+    """
+    answer = take_apart_or_refusal(data, pairs, k)
     if isinstance(answer, Refusal):
         raise Refused(answer)
     return answer

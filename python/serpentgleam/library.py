@@ -97,6 +97,9 @@ def day_call():
     return call('day', Answer, ctypes.c_void_p, ctypes.c_size_t, *[ctypes.c_uint64] * 4)
 
 
+FILE_AND_LIST = (ctypes.c_char_p, ctypes.c_size_t, ctypes.c_void_p, ctypes.c_size_t, ctypes.c_uint64)  # with the count
+
+
 class InstalmentCalls(NamedTuple):
     """The library's calls for pairing in instalments, by their names in the C header, without its prefix."""
     pair: Callable
@@ -106,9 +109,14 @@ class InstalmentCalls(NamedTuple):
 @functools.lru_cache(maxsize=None)
 def instalment_calls():
     """The calls for pairing in instalments; a library before version 0.7.0 does not have them."""
-    file_and_list = (ctypes.c_char_p, ctypes.c_size_t, ctypes.c_void_p, ctypes.c_size_t, ctypes.c_uint64)
-    return InstalmentCalls(call('pair', Answer, *file_and_list, ctypes.c_uint64),
-                           call('amount_so_far', Answer, *file_and_list))
+    return InstalmentCalls(call('pair', Answer, *FILE_AND_LIST, ctypes.c_uint64),
+                           call('amount_so_far', Answer, *FILE_AND_LIST))
+
+
+@functools.lru_cache(maxsize=None)
+def take_apart_call():
+    """The call that takes pairs apart; a library before version 0.8.0 does not have it."""
+    return call('take_apart', Answer, *FILE_AND_LIST, ctypes.c_uint64)
 
 
 def list_of_lines():

@@ -1,16 +1,20 @@
-"""What the tests of the package and the command share: the files they are run on, and the command run as a process."""
+"""What the tests of the package and the command share: the files they are run on, the command run as a process, and an
+earlier library.
+"""
 import glob
 import os
 import resource
 import subprocess
 import sys
 import tempfile
+from unittest import mock
 
 TOP = os.path.dirname(os.path.dirname(os.path.dirname(os.path.abspath(__file__))))
 sys.path[:0] = [os.path.join(TOP, 'python'), os.path.join(TOP, 'tests')]
 
 from account_batch import vectors  # noqa: E402
 
+from serpentgleam import library  # noqa: E402
 from serpentgleam.faults import trailer_faults  # noqa: E402
 from serpentgleam.layout import account_of  # noqa: E402
 from serpentgleam.text import file_from_text  # noqa: E402
@@ -88,3 +92,26 @@ def long_account():
     """An account whose answer has more than 4,096 bytes, which is what a pipe takes in one piece."""
     return file_with(''.join(f'{"held" if row % 2 else "written"} Q={row + 1} PE={3100 + row} european\n'
                              for row in range(256)))
+
+
+class Earlier:
+    """The shared object of an earlier library, which does not have some calls."""
+
+    def __init__(self, shared, missing):
+        self.shared, self.missing = shared, missing
+
+    def __getitem__(self, name):
+        if name.removeprefix('serpentgleam_') in self.missing:
+            raise AttributeError(f'undefined symbol: {name}')
+        return self.shared[name]
+
+
+def earlier_library(test, *missing):
+    """While a test runs, the library is one that does not have these calls."""
+    for loaded in (library.calls, library.factors_call, library.day_call, library.instalment_calls,
+                   library.take_apart_call):
+        loaded.cache_clear()
+        test.addCleanup(loaded.cache_clear)
+    patched = mock.patch.object(library, 'load', return_value=Earlier(library.load(), missing))
+    patched.start()
+    test.addCleanup(patched.stop)

@@ -6,10 +6,9 @@ import ctypes
 import itertools
 import random
 import unittest
-from unittest import mock
 
-from support import (AFTER_THE_DAY, BEFORE_THE_DAY, DOCUMENT, SERIES_TEXT, VECTORS, WRONG_SIDE, bytes_of, file_with,
-                     long_account, without_positions)
+from support import (AFTER_THE_DAY, BEFORE_THE_DAY, DOCUMENT, SERIES_TEXT, VECTORS, WRONG_SIDE, bytes_of,
+                     earlier_library, file_with, long_account, without_positions)
 
 from account_batch import days
 
@@ -236,28 +235,11 @@ class Module(unittest.TestCase):
         self.assertEqual(together, [after(data, *day) for data, day in asked])
 
 
-class Earlier:
-    """The shared object of a library before version 0.5.0, which has no call for a day."""
-
-    def __init__(self, shared):
-        self.shared = shared
-
-    def __getitem__(self, name):
-        if name == 'serpentgleam_day':
-            raise AttributeError(f'undefined symbol: {name}')
-        return self.shared[name]
-
-
 class EarlierLibrary(unittest.TestCase):
-    def setUp(self):
-        for loaded in (library.calls, library.day_call):
-            loaded.cache_clear()
-            self.addCleanup(loaded.cache_clear)
-        patched = mock.patch.object(library, 'load', return_value=Earlier(library.load()))
-        patched.start()
-        self.addCleanup(patched.stop)
+    """A library before version 0.5.0, which has no call for a day."""
 
     def test_it_has_margins_and_no_day(self):
+        earlier_library(self, 'day')
         self.assertEqual(serpentgleam.margin(bytes_of(DOCUMENT)).total, 10_800)
         self.assertRaisesRegex(NotFound, 'of an earlier version: undefined symbol: serpentgleam_day',
                                serpentgleam.day, bytes_of(DOCUMENT), *DAY)

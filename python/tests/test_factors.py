@@ -4,9 +4,8 @@ import json
 import os
 import pickle
 import unittest
-from unittest import mock
 
-from support import DOCUMENT, bytes_of, command, file_with, folder, written
+from support import DOCUMENT, bytes_of, command, earlier_library, file_with, folder, written
 
 import serpentgleam
 from serpentgleam import CODES, Factors, NotFound, Refusal, Refused, library
@@ -118,28 +117,11 @@ class Module(unittest.TestCase):
             self.assertEqual(pickle.loads(pickle.dumps(answer)), answer)
 
 
-class Earlier:
-    """The shared object of a library before version 0.3.0, which has no call for factors."""
-
-    def __init__(self, shared):
-        self.shared = shared
-
-    def __getitem__(self, name):
-        if name == 'serpentgleam_factors':
-            raise AttributeError(f'undefined symbol: {name}')
-        return self.shared[name]
-
-
 class EarlierLibrary(unittest.TestCase):
-    def setUp(self):
-        for loaded in (library.calls, library.factors_call):
-            loaded.cache_clear()
-            self.addCleanup(loaded.cache_clear)
-        patched = mock.patch.object(library, 'load', return_value=Earlier(library.load()))
-        patched.start()
-        self.addCleanup(patched.stop)
+    """A library before version 0.3.0, which has no call for factors."""
 
     def test_it_has_margins_and_no_factors(self):
+        earlier_library(self, 'factors')
         self.assertEqual(serpentgleam.margin(bytes_of(DOCUMENT)).total, 10_800)
         self.assertRaisesRegex(NotFound, 'of an earlier version: undefined symbol: serpentgleam_factors',
                                serpentgleam.factors, 'FCI', 720)

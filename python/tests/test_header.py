@@ -77,7 +77,7 @@ class Numbers(unittest.TestCase):
 
     def test_no_such_refusal(self):
         sentence = re.search(r'default:\s+return "(.*)";', HEADER)[1]
-        for number in (0, 3, 15, 19):
+        for number in (0, 3, 15, 20):
             self.assertEqual(serpentgleam.Refusal(number, 0).reason, sentence)
 
     def test_structures(self):

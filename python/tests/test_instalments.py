@@ -7,64 +7,15 @@ import ctypes
 import itertools
 import random
 import unittest
-from unittest import mock
 
-from support import (DOCUMENT, INSTALMENTS, VECTORS, WHOLE_REAIS, WRONG_SIDE, bytes_of, file_with, long_account,
-                     without_positions)
+from lent_lists import (ACCEPTED, BELOW_0, LARGE, MARK, NOT_FIRST, TOO_LARGE, TOO_SHORT, Lent, amount_after,
+                        lines_of, one_number_changed)
+from support import (DOCUMENT, INSTALMENTS, VECTORS, WHOLE_REAIS, WRONG_SIDE, bytes_of, earlier_library, file_with,
+                     long_account, without_positions)
 
 import serpentgleam
 from serpentgleam import NotFound, Pair, Refusal, Refused, engine, library
-from serpentgleam.layout import account_of, file_of
-
-TOO_SHORT, NOT_FIRST = Refusal(12, 0), Refusal(18, 0)
-LARGE = (2 ** 32, 2 ** 32 + 1, 2 ** 63, 2 ** 63 + 1, 2 ** 64 - 1)  # each a count and an allowance
-TOO_LARGE = (2 ** 64, 2 ** 64 + 1, 10 ** 30)
-BELOW_0 = (-1, -2 ** 64)
-MARK = 0xa5a5a5a5a5a5a5a5  # in each number of an entry that is not a line
-ACCEPTED = [data for data, answer in VECTORS if not answer.startswith('refused')]
-
-
-def amount_after(data, count):
-    """The amount after the first pairs: theirs, the premiums, and of each written row that of its contracts left, which
-    is that of a row by itself with so many contracts.
-    """
-    margin, account = serpentgleam.margin(data), account_of(data)
-    pairs = margin.pairs[:count]
-    amount = margin.premium + sum(pair.amount for pair in pairs)
-    for number, row in enumerate(account.positions):
-        left = row['Q'] - sum(pair.contracts for pair in pairs if pair.written == number)
-        if row['side'] and left:
-            rows = [{**row, 'Q': left} if at == number else other for at, other in enumerate(account.positions)]
-            amount += serpentgleam.position_amount(file_of(account._replace(positions=rows)), number)
-    return amount
-
-
-def lines_of(pairs):
-    """The numbers of pair lines."""
-    return [number for pair in pairs for number in (engine.PAIR, *pair)]
-
-
-class Lent:
-    """A list of so many entries for the library's calls, which begins with these numbers; the others are marks, also
-    after the list, where no call may write.
-    """
-
-    def __init__(self, numbers, room):
-        self.room = room
-        self.numbers = array.array('Q', [MARK] * (library.LINE_NUMBERS * (room + 2)))
-        self.numbers[:len(numbers)] = array.array('Q', numbers)
-        self.address = self.numbers.buffer_info()[0]
-
-    def pair(self, data, count, allowance):
-        """Refusal, row and value."""
-        return self.answer(library.instalment_calls().pair(data, len(data), self.address, self.room, count, allowance))
-
-    def amount(self, data, count):
-        """Refusal, row and value."""
-        return self.answer(library.instalment_calls().amount_so_far(data, len(data), self.address, self.room, count))
-
-    def answer(self, answer):
-        return answer.refusal, answer.row, answer.value
+from serpentgleam.layout import account_of
 
 
 class Pairs(unittest.TestCase):
@@ -190,15 +141,11 @@ class Lists(unittest.TestCase):
         self.assertEqual(set(lent.numbers[4 * library.LINE_NUMBERS:]), {MARK})
 
     def test_each_number_of_each_line(self):
-        numbers = lines_of(self.pairs)
-        for at, number in enumerate(numbers):
-            for other in {number + 1, max(number, 1) - 1, number ^ 1 << 32, number ^ 1 << 63, MARK} - {number}:
-                changed = [*numbers[:at], other, *numbers[at + 1:]]
-                self.check_refused(self.data, changed, 256, len(self.pairs), NOT_FIRST)
-                self.check_refused(self.data, changed, 256, at // library.LINE_NUMBERS + 1, NOT_FIRST)
-                lent = Lent(changed, 256)
-                before = at // library.LINE_NUMBERS
-                self.assertEqual(lent.amount(self.data, before), (0, 0, amount_after(self.data, before)))
+        for at, changed in one_number_changed(lines_of(self.pairs)):
+            before = at // library.LINE_NUMBERS
+            self.check_refused(self.data, changed, 256, len(self.pairs), NOT_FIRST)
+            self.check_refused(self.data, changed, 256, before + 1, NOT_FIRST)
+            self.assertEqual(Lent(changed, 256).amount(self.data, before), (0, 0, amount_after(self.data, before)))
 
     def test_lines_in_another_order(self):
         for first, second in ((0, 1), (0, 19), (7, 8)):
@@ -333,28 +280,11 @@ class Module(unittest.TestCase):
                          [serpentgleam.margin(data).pairs for data, _ in asked])
 
 
-class Earlier:
-    """The shared object of a library before version 0.7.0, which has no calls for instalments."""
-
-    def __init__(self, shared):
-        self.shared = shared
-
-    def __getitem__(self, name):
-        if name in ('serpentgleam_pair', 'serpentgleam_amount_so_far'):
-            raise AttributeError(f'undefined symbol: {name}')
-        return self.shared[name]
-
-
 class EarlierLibrary(unittest.TestCase):
-    def setUp(self):
-        for loaded in (library.calls, library.instalment_calls):
-            loaded.cache_clear()
-            self.addCleanup(loaded.cache_clear)
-        patched = mock.patch.object(library, 'load', return_value=Earlier(library.load()))
-        patched.start()
-        self.addCleanup(patched.stop)
+    """A library before version 0.7.0, which has no calls for instalments."""
 
     def test_it_has_margins_and_no_instalments(self):
+        earlier_library(self, 'pair', 'amount_so_far', 'take_apart')
         data = bytes_of(DOCUMENT)
         self.assertEqual(serpentgleam.margin(data).total, 10_800)
         for call, words in ((serpentgleam.pair, (8,)), (serpentgleam.amount_so_far, ())):
