@@ -1,5 +1,8 @@
 //! Pairing in instalments (document 02 [7]): pairs, amounts between, refusals.
 
+mod example_lines;
+
+use example_lines::{FIRST, LEFT, SECOND, UNTOUCHED};
 use reference::account::Account;
 use reference::draft::{example, file, held, written, Draft, SeriesDraft, CALL, PUT};
 use reference::instalments::{amount_so_far, pair_into, take_apart_in, HalfPaired};
@@ -7,11 +10,6 @@ use reference::lines::{margin, margin_into, pair_entry, premiums, Entry};
 use reference::random::Random;
 use reference::reader::{read_account, Refusal};
 use reference::sample::{limited_alike, sample_account, Shape};
-
-const UNTOUCHED: Entry = [77; 5];
-const FIRST: Entry = [1, 0, 2, 3, 0];
-const SECOND: Entry = [1, 0, 1, 4, 3000];
-const LEFT: Entry = [2, 0, 3, 7500, 0];
 
 const SMALL: Shape = Shape {
     series: (1, 3),

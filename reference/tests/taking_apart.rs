@@ -1,6 +1,9 @@
 //! Taking pairs apart (document 02 [8]): entries, counts, contracts, refusals,
 //! and pairing again.
 
+mod example_lines;
+
+use example_lines::{FIRST, LEFT, SECOND, UNTOUCHED};
 use reference::draft::{example, file, held, written, Draft, SeriesDraft, CALL, PUT};
 use reference::instalments::{amount_so_far, pair_into, take_apart_in, HalfPaired};
 use reference::lines::{margin, pair_entry, Entry};
@@ -8,11 +11,7 @@ use reference::random::Random;
 use reference::reader::{read_account, Refusal};
 use reference::sample::{limited_alike, sample_account, some_knocked_out, Shape};
 
-const UNTOUCHED: Entry = [77; 5];
 const ZEROS: Entry = [0; 5];
-const FIRST: Entry = [1, 0, 2, 3, 0];
-const SECOND: Entry = [1, 0, 1, 4, 3000];
-const LEFT: Entry = [2, 0, 3, 7500, 0];
 
 const SMALL: Shape = Shape {
     series: (1, 2),
