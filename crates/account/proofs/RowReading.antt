@@ -1,13 +1,13 @@
 -- The row reader and the two loops, over plain values: each return of the code as an equation with its definition.
 -- Assumes nothing.
 use Prim.Native.Nat.{ℕ, _+_, _≤_, _<_}
-use mathlib.Core.Bool.{Bool, true, false}
+use mathlib.Core.Bool.{Bool, true, false, _&&_}
 use mathlib.Core.List.{List}
 use mathlib.Core.Path.{_≡_, refl, sym, _∙_, ap}
 use native.Mathlib.Numerals.{add-one}
 use native.Mathlib.Omega.{arith}
 use borrow.Author.Tests.{leb-false}
-use lib.Dec.{leb, ltb}
+use lib.Dec.{eqb, leb, ltb}
 use Rattle.rules.proofs.Chain.{none-of-five, passes, stops}
 use Rattle.rules.proofs.Scan.{CleanTo, FirstAt, clean-more, rows-clean, rows-stop}
 use Rattle.rules.specs.File.{positionOf, positionRow, seriesRow}
@@ -29,7 +29,7 @@ use Rattle.rules.specs.declared.SeriesRow.{SeriesRow}
 pub terms-series : (s : ℕ) (r : PositionRow) → wrongTerms s r ≡ false → r .series < s
 terms-series s r e =
     leb-false s (r .series)
-    (none-of-five (leb s (r .series)) (ltb 1 (r .side)) (ltb 4 (r .kind)) (wrongFlags r) (nonzero (r .spare)) e .0)
+    (none-of-five (leb s (r .series)) (ltb 1 (r .side)) (ltb 4 (r .kind)) (wrongFlags r) (eqb (r .side) 1 && nonzero (r .blocked)) e .0)
 
 -- Row i of a file, read by the code as `row`.
 module _ (b : List ℕ) (l : Layout) (i : ℕ) (row : PositionRow) (is : row ≡ positionRow b l i) (t : Bool) (tested : t ≡ wrongTerms (l .series) row) where

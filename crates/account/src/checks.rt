@@ -32,7 +32,7 @@ pub fn wrong_terms(s: usize, r: PositionRow) -> bool
         | ((31 < r.flags)
             | (flags.knockedIn & ((r.kind < 1) | (2 < r.kind)))
             | (flags.knockedOut & ((r.kind < 3) | (4 < r.kind))))
-        | !(r.spare == 0)
+        | ((r.side == 1) & !(r.blocked == 0))
 }
 
 pub fn wrong_range(r: PositionRow) -> bool
@@ -43,6 +43,7 @@ pub fn wrong_range(r: PositionRow) -> bool
         | (10_000_000 < r.reb)
         | (10_000_000 < r.premium)
         | ((r.side == 1) & !(r.premium == 0))
+        | (r.q < r.blocked)
 }
 
 pub fn wrong_limiter(option: u32, r: PositionRow) -> bool

@@ -86,7 +86,7 @@ pub fn position_row_from(file: &[u8], at: usize) -> PositionRow
         side: u8_at(file, at + 2),
         kind: u8_at(file, at + 3),
         flags: u8_at(file, at + 4),
-        spare: u24_at(file, at + 5),
+        blocked: u24_at(file, at + 5),
         q: u32_at(file, at + 8),
         pe: u32_at(file, at + 12),
         pb: u32_at(file, at + 16),

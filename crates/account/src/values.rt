@@ -93,6 +93,7 @@ pub fn position_of(r: PositionRow) -> Position
         terms,
         flags,
         q: r.q,
+        blocked: r.blocked,
         premium: r.premium,
     }
 }

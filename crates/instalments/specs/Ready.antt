@@ -8,10 +8,11 @@ use lib.Dec.{ltb}
 use lib.ListN.{length}
 use Rattle.instalments.specs.declared.CallLines.{CallLines}
 use Rattle.instalments.specs.declared.CallLines.the-variants.{Lines, NoLines}
-use Rattle.lines.specs.LineNumbers.{linesFrom, mostNumbers}
+use Rattle.lines.specs.LineNumbers.{linesFrom, mostNumbers, mostPairNumbers}
 use Rattle.rules.specs.File.{Account, accountOf}
 use Rattle.rules.specs.Instalments.{allPairs, firstPairs, madeOf}
-use Rattle.rules.specs.Lines.{mostLines, totalAfter}
+use Rattle.rules.specs.Limits.{mostPositions}
+use Rattle.rules.specs.Lines.{entriesFor, totalAfter}
 use Rattle.rules.specs.Refusals.{fileRead}
 use Rattle.rules.specs.declared.ApartAnswer.{ApartAnswer}
 use Rattle.rules.specs.declared.ApartAnswer.the-variants.{NotTakenApart, TakenApart}
@@ -50,7 +51,7 @@ keptOf (NotTakenApart w i) n = n
 -- By the account: 12, then 18 where there are fewer pairs than lines in the list.
 abbrev pub readyBy : Account → ℕ → ℕ → ℕ → ℕ → CallLines
 readyBy a room count last value =
-    cond (ltb room (a .positions)) (NoLines ListTooShort 0)
+    cond (ltb room (entriesFor (a .positions))) (NoLines ListTooShort 0)
     (cond (ltb (length (allPairs a)) count) (NoLines NotFirstPairs 0) (Lines count last value))
 
 -- By the reading: the lines of the pairs that there are and of those made, and how many are made;
@@ -69,17 +70,17 @@ abbrev pub pairsOfFile : List ℕ → FileRead → ℕ → List Line
 pairsOfFile b (Refused w i) n = []
 pairsOfFile b (Accepted l) n = firstPairs (accountOf b l) n
 
--- What is worked out, with the lines as plain numbers.
-pub record Ready (b : List ℕ) (room : ℕ) (numbers : List ℕ) (is r : CallLines) : Type 0 where
+-- What is worked out, with the lines as plain numbers, of which there are `size`.
+pub record Ready (size : ℕ) (b : List ℕ) (room : ℕ) (numbers : List ℕ) (is r : CallLines) : Type 0 where
   pub ready-is : r ≡ is
   pub lines-are : linesFrom numbers (reach r) ≡ pairsOfFile b (fileRead b) (reach r)
   pub order : start r ≤ reach r
   pub reach-most : reach r ≤ room
-  pub reach-small : reach r ≤ mostLines
-  pub numbers-length : length numbers ≡ mostNumbers
+  pub reach-small : reach r ≤ mostPositions
+  pub numbers-length : length numbers ≡ size
 
 abbrev pub PairsReady : List ℕ → ℕ → ℕ → ℕ → List ℕ → CallLines → Type 0
-PairsReady b room count allowance numbers = Ready b room numbers (pairsFor b room count allowance (fileRead b))
+PairsReady b room count allowance numbers = Ready mostPairNumbers b room numbers (pairsFor b room count allowance (fileRead b))
 
 abbrev pub AmountReady : List ℕ → ℕ → ℕ → List ℕ → CallLines → Type 0
-AmountReady b room count numbers = Ready b room numbers (amountFor b room count (fileRead b))
+AmountReady b room count numbers = Ready mostNumbers b room numbers (amountFor b room count (fileRead b))

@@ -1,6 +1,7 @@
 // Pairing in instalments (document 02, request 7) and taking pairs apart (request 8): what a call works out before its lines
 // are compared with the caller's list, and what follows from the comparison.
 use account::reader::read_file;
+use lines::entries_for;
 use lines_and_total::listing::list_lines;
 use lines_and_total::listing::list_pairs;
 use lines_and_total::premium::premium_sum;
@@ -11,7 +12,7 @@ use rules::Refusal;
 ghost use lib.ListN.{length};
 ghost use mathlib.Core.Path.{_≡_};
 ghost use Rattle.instalments.specs.Ready.{AmountReady, PairsReady, apartBy, end, keptOf, start};
-ghost use Rattle.lines.specs.LineNumbers.{mostNumbers};
+ghost use Rattle.lines.specs.LineNumbers.{mostNumbers, mostPairNumbers};
 ghost use Rattle.rules.specs.Refusals.{fileRead};
 ghost use Rattle.rules.specs.declared.FileRead.the-variants.{Accepted};
 
@@ -22,8 +23,8 @@ pub enum CallLines {
     NoLines(Refusal, usize),
 }
 
-// The next pairs of an accepted file: 12 where the caller's list has fewer entries than the file has positions, 18 where
-// there are fewer pairs than lines in it.
+// The next pairs of an accepted file: 12 where the caller's list has fewer entries than it needs, 18 where there are fewer
+// pairs than lines in it.
 fn next_accepted(
     file: &[u8],
     l: Layout,
@@ -32,10 +33,10 @@ fn next_accepted(
     allowance: u64,
     numbers: &mut [u64],
 ) -> CallLines
-    requires { ⌜ (fileRead (now file) ≡ Accepted l) × (length (now numbers) ≡ mostNumbers) ⌝ }
+    requires { ⌜ (fileRead (now file) ≡ Accepted l) × (length (now numbers) ≡ mostPairNumbers) ⌝ }
     ensures { λ r. ⌜ PairsReady (now (file .entry)) room count allowance (now (numbers .exit)) r ⌝ }
 {
-    if room < l.positions {
+    if room < entries_for(l.positions) {
         return CallLines::NoLines(Refusal::ListTooShort, 0);
     }
     let listed = list_pairs(file, l, count, allowance, numbers);
@@ -57,7 +58,7 @@ pub fn next_pairs(
     allowance: u64,
     numbers: &mut [u64],
 ) -> CallLines
-    requires { ⌜ length (now numbers) ≡ mostNumbers ⌝ }
+    requires { ⌜ length (now numbers) ≡ mostPairNumbers ⌝ }
     ensures { λ r. ⌜ PairsReady (now (file .entry)) room count allowance (now (numbers .exit)) r ⌝ }
 {
     match read_file(file) {
@@ -77,7 +78,7 @@ fn amount_accepted(
     requires { ⌜ (fileRead (now file) ≡ Accepted l) × (length (now numbers) ≡ mostNumbers) ⌝ }
     ensures { λ r. ⌜ AmountReady (now (file .entry)) room count (now (numbers .exit)) r ⌝ }
 {
-    if room < l.positions {
+    if room < entries_for(l.positions) {
         return CallLines::NoLines(Refusal::ListTooShort, 0);
     }
     let listed = list_lines(file, l, count, numbers);

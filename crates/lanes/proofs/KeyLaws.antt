@@ -9,24 +9,25 @@ use borrow.Author.Tests.{eqb-true}
 use Rattle.lanes.proofs.FileFacts.{Ranged, row-range}
 use Rattle.lanes.proofs.FamilyLaws.{family-most, may-family}
 use Rattle.lanes.proofs.LimiterLaws.{may-fit}
-use Rattle.lanes.specs.Keys.{InRange, family, from, groupOf, inLanes, key, last, linkFrom, none, placeOf, start, top}
+use Rattle.lanes.specs.Keys.{InRange, family, from, groupOf, inLanes, key, last, linkFrom, none, placeOf, someUnblocked, start, top}
 use Rattle.rules.proofs.MayPair.{may-pairable}
 use Rattle.rules.specs.File.{Account}
 use Rattle.rules.specs.Pairs.{mayOf}
 use Rattle.rules.specs.declared.Position.{Position}
 
--- Two rows that may pair: the held one is in the lanes, both have one series and one family, and knock-ins one strike.
+-- Two rows that may pair, of which the held one has contracts that are not blocked: it is in the lanes, both have one series and
+-- one family, and knock-ins one strike.
 pub record Meet (a : Account) (w h : ℕ) : Type 0 where
   pub held : inLanes a h ≡ true
   pub series : a .positionAt w .series ≡ a .positionAt h .series
   pub family-is : family (a .positionAt w) ≡ family (a .positionAt h)
   pub strike : family (a .positionAt w) ≡ 3 → a .positionAt w .terms .pe ≡ a .positionAt h .terms .pe
 
-pub may-meet : (a : Account) (w h : ℕ) → w < a .positions → mayOf a w h ≡ true → Meet a w h
-may-meet a w h l e =
+pub may-meet : (a : Account) (w h : ℕ) → w < a .positions → mayOf a w h ≡ true → someUnblocked a h ≡ true → Meet a w h
+may-meet a w h l e some =
     let p = may-pairable a w h e in
     let f = may-family a w h e in
-    record { held = rw (p .is-held, p .held-may, may-fit a w h l e) refl; series = p .one-series; family-is = f .0; strike = f .1 }
+    record { held = rw (p .is-held, p .held-may, may-fit a w h l e, some) refl; series = p .one-series; family-is = f .0; strike = f .1 }
 
 -- The same as the definitions have it, of the up lane where u is true, else of the down lane.
 abbrev fromBy : Bool → Position → ℕ
@@ -126,9 +127,9 @@ module _ (a : Account) (ok : Ranged a) (o : ℕ) where
   top-most r l = omega (arith, top-near r l, from-most (a .positionAt r) (row-range a ok r l) (eqb o 256))
 
   -- The key of a row that may pair lies below the top.
-  pub key-below : (w h : ℕ) → w < a .positions → h < a .positions → mayOf a w h ≡ true → start a o w ≤ key a o h → key a o h < top a o w
-  key-below w h lw lh e above =
-      let m = may-meet a w h lw e in
+  pub key-below : (w h : ℕ) → w < a .positions → h < a .positions → mayOf a w h ≡ true → someUnblocked a h ≡ true → start a o w ≤ key a o h → key a o h < top a o w
+  key-below w h lw lh e some above =
+      let m = may-meet a w h lw e some in
       rw (key-is h (m .held))
       (key-below-by (a .positionAt w) (a .positionAt h) (row-range a ok w lw) (row-range a ok h lh) h (omega (arith, ok .rows-most))
       (eqb o 256) (eqb (family (a .positionAt w)) 3) refl (m .series) (m .family-is) (m .strike) (rw (key-is h (m .held)) at above))

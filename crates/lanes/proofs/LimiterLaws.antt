@@ -2,16 +2,17 @@
 -- by row.
 -- Assumes nothing.
 use Prim.Native.Nat.{ℕ, zero, suc, _+_, _≤_, _<_, max}
-use mathlib.Core.Bool.{true, false, cond, true≢false}
+use mathlib.Core.Bool.{true, false, cond, _&&_, true≢false}
 use mathlib.Core.List.{List}
 use mathlib.Core.Logic.{_⊎_, inl, inr}
-use mathlib.Core.Path.{_≡_, refl, sym, ap, _∙_}
+use mathlib.Core.Path.{_≡_, refl, sym, ap, ap₂, _∙_}
 use native.Mathlib.Numerals.{add-one}
 use native.Mathlib.Omega.{arith}
-use lib.Dec.{eqb, leb}
+use lib.Dec.{eqb, leb, ltb}
 use lib.ListN.{getD-replicate, length, replicate, set}
 use lib.Seq.{getD-set-other, getD-set-same}
 use borrow.Author.Tests.{eq-eqb, le-leb, ltb-false, ne-eqb}
+use Rattle.lanes.specs.Keys.{fitsLanes}
 use Rattle.lanes.specs.Limiters.{Nearest, ifWritten, limiterFits, nearestLimiter, nearness, nearnessOf}
 use Rattle.numbers.proofs.Order.{newest, same as decide}
 use Rattle.numbers.specs.Lists.{nth}
@@ -82,12 +83,17 @@ module _ (a : Account) (n : ℕ) (near : List ℕ) (f : Nearest a n near) where
           rw (nearest-more a t n, ne-eqb (a .positionAt n .series) t (λ q. d (sym (is ∙ q))))
           (getD-set-other near s t y 0 d ∙ f t lt ∙ omega arith)
 
--- The code's test of a row p that it read.
-pub limiter-fits : (a : Account) (near : List ℕ) → Nearest a (a .positions) near → (p : Position) (r x : ℕ) → p ≡ a .positionAt r → p .series < 32
+-- The code's tests of a row p that it read.
+limiter-fits : (a : Account) (near : List ℕ) → Nearest a (a .positions) near → (p : Position) (r x : ℕ) → p ≡ a .positionAt r → p .series < 32
     → x ≡ nearness (a .seriesAt (p .series) .option) (p .terms .limiter) → leb x (nth near (p .series)) ≡ limiterFits a r
 limiter-fits a near f p r x e l ex =
     rw (f (p .series) l, ex)
     (ap (λ (q : Position). leb (nearness (a .seriesAt (q .series) .option) (q .terms .limiter)) (nearestLimiter a (q .series) (a .positions))) e)
+
+pub lanes-fit : (a : Account) (near : List ℕ) → Nearest a (a .positions) near → (p : Position) (r x : ℕ) → p ≡ a .positionAt r → p .series < 32
+    → x ≡ nearness (a .seriesAt (p .series) .option) (p .terms .limiter) → (leb x (nth near (p .series)) && ltb (p .blocked) (p .q)) ≡ fitsLanes a r
+lanes-fit a near f p r x e l ex =
+    ap₂ (λ s t. s && t) (limiter-fits a near f p r x e l ex) (ap (λ (q : Position). ltb (q .blocked) (q .q)) e)
 
 -- Zeros, before the first row.
 pub nearest-none : (a : Account) → Nearest a 0 (replicate 32 0)

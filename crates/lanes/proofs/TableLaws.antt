@@ -12,8 +12,8 @@ use lib.Seq.{getD-set-other, getD-set-same}
 use borrow.Author.Tests.{eq-eqb, ne-eqb}
 use Rattle.lanes.proofs.FileFacts.{Ranged, row-range}
 use Rattle.lanes.proofs.MarkLaws.{mark-from, mark-most, mark-role}
-use Rattle.lanes.specs.Keys.{LeastKey, Links, from, inLanes, isLinked, key, last, pairsAsHeld, pairsAsWritten}
-use Rattle.lanes.specs.Limiters.{ifWritten, limiterFits}
+use Rattle.lanes.specs.Keys.{LeastKey, Links, fitsLanes, from, inLanes, isLinked, key, last, pairsAsHeld, pairsAsWritten}
+use Rattle.lanes.specs.Limiters.{ifWritten}
 use Rattle.lanes.specs.Links.{Linked, LinksFilled, MarkLinks, Ordered, downKey, heldFrom, laneKey, markKey, markLinkFrom, writtenFrom}
 use Rattle.lanes.specs.Marks.{Marked, Marks, Sorted, TableFilled, markFrom, markOf, markPlace, roleOf, sideRole}
 use Rattle.numbers.proofs.Order.{newest, split}
@@ -173,20 +173,20 @@ role-linked fits p = go fits (mayBePaired p) (p .side)
     go m false Written e = absurd (false≢true e)
 
 module _ (a : Account) (ok : Ranged a) (table : List ℕ) (marks : Marks a table) where
-  row-role : (r : ℕ) → r < a .positions → nth table r % 256 ≡ roleOf (limiterFits a r) (a .positionAt r)
-  row-role r l = ap (λ x. x % 256) (marks r l) ∙ mark-role (limiterFits a r) (a .positionAt r) (row-range a ok r l)
+  row-role : (r : ℕ) → r < a .positions → nth table r % 256 ≡ roleOf (fitsLanes a r) (a .positionAt r)
+  row-role r l = ap (λ x. x % 256) (marks r l) ∙ mark-role (fitsLanes a r) (a .positionAt r) (row-range a ok r l)
 
   row-held : (r : ℕ) → r < a .positions → eqb (nth table r % 256) 0 ≡ inLanes a r
-  row-held r l = ap (λ x. eqb x 0) (row-role r l) ∙ role-held (limiterFits a r) (a .positionAt r)
+  row-held r l = ap (λ x. eqb x 0) (row-role r l) ∙ role-held (fitsLanes a r) (a .positionAt r)
 
   row-from : (o r : ℕ) → r < a .positions → markFrom o (nth table r) ≡ from a o r
-  row-from o r l = ap (markFrom o) (marks r l) ∙ mark-from (limiterFits a r) (a .positionAt r) (row-range a ok r l) o
+  row-from o r l = ap (markFrom o) (marks r l) ∙ mark-from (fitsLanes a r) (a .positionAt r) (row-range a ok r l) o
 
   pub row-most : (r : ℕ) → r < a .positions → nth table r ≤ last
-  row-most r l = rw (marks r l) (mark-most (limiterFits a r) (a .positionAt r) (row-range a ok r l))
+  row-most r l = rw (marks r l) (mark-most (fitsLanes a r) (a .positionAt r) (row-range a ok r l))
 
   row-linked : (r : ℕ) → r < a .positions → isLinked a r ≡ true → nth table r % 256 < 2
-  row-linked r l e = rw (row-role r l) (role-linked (limiterFits a r) (a .positionAt r) e)
+  row-linked r l e = rw (row-role r l) (role-linked (fitsLanes a r) (a .positionAt r) e)
 
   links-as : (o : ℕ) (new : List ℕ) → MarkLinks table (a .positions) o new → Links a o new
   links-as o new f r l e =
@@ -210,7 +210,7 @@ module _ (a : Account) (old : List ℕ) where
       }
 
   module _ (m : ℕ) (was : List ℕ) (row : m < 256) (room : 1024 ≤ length was) (f : Marked a m old was) where
-    pub marked-more : (fits : Bool) (p : Position) (x u : ℕ) → p ≡ a .positionAt m → fits ≡ limiterFits a m → x ≡ markOf fits p → u ≡ ifWritten (p .side) (unitMargin (a .seriesAt (p .series)) p)
+    pub marked-more : (fits : Bool) (p : Position) (x u : ℕ) → p ≡ a .positionAt m → fits ≡ fitsLanes a m → x ≡ markOf fits p → u ≡ ifWritten (p .side) (unitMargin (a .seriesAt (p .series)) p)
         → Marked a (m + 1) old (set (set was m x) (768 + m) u)
     marked-more fits p x u ep em ex eu =
         record {
@@ -225,7 +225,7 @@ module _ (a : Account) (old : List ℕ) where
         other : (i : ℕ) → (i ≡ m → ⊥) → (i ≡ 768 + m → ⊥) → nth new i ≡ nth was i
         other i y z = getD-set-other (set was m x) (768 + m) i u 0 z ∙ getD-set-other was m i x 0 y
 
-        marks : (r : ℕ) → (r ≡ m) ⊎ (r < m) → nth new r ≡ markOf (limiterFits a r) (a .positionAt r)
+        marks : (r : ℕ) → (r ≡ m) ⊎ (r < m) → nth new r ≡ markOf (fitsLanes a r) (a .positionAt r)
         marks r (inl q) =
             rw q
             (getD-set-other (set was m x) (768 + m) m u 0 (λ (q : m ≡ 768 + m). omega arith)

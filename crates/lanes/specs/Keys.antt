@@ -6,7 +6,7 @@ use Prim.Native.Nat.{ℕ, _+_, _*_, _-_, _≤_, _<_}
 use mathlib.Core.Bool.{Bool, true, cond, _&&_, _||_}
 use mathlib.Core.List.{List}
 use mathlib.Core.Path.{_≡_}
-use lib.Dec.{eqb}
+use lib.Dec.{eqb, ltb}
 use Rattle.lanes.specs.Limiters.{limiterFits}
 use Rattle.numbers.specs.Lists.{nth}
 use Rattle.rules.specs.File.{Account}
@@ -50,9 +50,17 @@ pairsAsHeld p = isHeld (p .side) && mayBePaired p
 abbrev pub pairsAsWritten : Position → Bool
 pairsAsWritten p = isWritten (p .side) && mayBePaired p
 
--- The held rows in the lanes. One whose limiter bars its pair with every written row of its series is left out.
+-- Row r has contracts that are not blocked (document 02 [9]).
+abbrev pub someUnblocked : Account → ℕ → Bool
+someUnblocked a r = ltb (a .positionAt r .blocked) (a .positionAt r .q)
+
+-- The held rows in the lanes. One whose limiter bars its pair with every written row of its series is left out, and one whose
+-- contracts are all blocked.
+abbrev pub fitsLanes : Account → ℕ → Bool
+fitsLanes a r = limiterFits a r && someUnblocked a r
+
 abbrev pub inLanes : Account → ℕ → Bool
-inLanes a r = pairsAsHeld (a .positionAt r) && limiterFits a r
+inLanes a r = pairsAsHeld (a .positionAt r) && fitsLanes a r
 
 -- The rows that have links.
 abbrev pub isLinked : Account → ℕ → Bool

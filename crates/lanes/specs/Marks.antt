@@ -7,8 +7,8 @@ use mathlib.Core.Path.{_≡_}
 use lib.Dec.{eqb}
 use lib.ListN.{length}
 use Rattle.account.specs.Known.{Known}
-use Rattle.lanes.specs.Keys.{Links, downLane, last, lineColumn, placeOf, tableSize, unitColumn, upLane}
-use Rattle.lanes.specs.Limiters.{Nearest, ifWritten, limiterFits}
+use Rattle.lanes.specs.Keys.{Links, downLane, fitsLanes, last, lineColumn, placeOf, tableSize, unitColumn, upLane}
+use Rattle.lanes.specs.Limiters.{Nearest, ifWritten}
 use Rattle.numbers.specs.Lists.{nth}
 use Rattle.rules.specs.File.{Account, accountOf, seriesOfRow}
 use Rattle.rules.specs.Limits.{mostPositions, mostSeries}
@@ -19,8 +19,8 @@ use Rattle.rules.specs.declared.Position.{Position}
 use Rattle.rules.specs.declared.Side.{Side}
 use Rattle.rules.specs.declared.Side.the-variants.{Held, Written}
 
--- What a row can be in a pair: its held row, 0, its written row, 1, or neither, 2. A held row whose limiter does not fit
--- (`Limiters.limiterFits`) is neither.
+-- What a row can be in a pair: its held row, 0, its written row, 1, or neither, 2. A held row that stays out of
+-- the lanes (`Keys.fitsLanes`) is neither.
 abbrev pub sideRole : Bool → Side → ℕ
 sideRole fits Held = cond fits 0 2
 sideRole fits Written = 1
@@ -49,7 +49,7 @@ markTop o x =
     (cond (eqb o upLane) (markGroup x + 1_099_511_627_776) (last + 256 - markGroup x))
 
 abbrev pub Marks : Account → List ℕ → Type 0
-Marks a table = (r : ℕ) → r < a .positions → nth table r ≡ markOf (limiterFits a r) (a .positionAt r)
+Marks a table = (r : ℕ) → r < a .positions → nth table r ≡ markOf (fitsLanes a r) (a .positionAt r)
 
 -- The unit margins of the written rows.
 abbrev pub Units : Account → List ℕ → Type 0
@@ -101,8 +101,16 @@ pub record MarksAsked (b : List ℕ) (l : Layout) (near table : List ℕ) : Type
   pub near-are : Nearest (accountOf b l) (l .positions) near
   pub room : lineColumn ≤ length table
 
+-- The same, and a row p that was read.
+pub record FitsAsked (b : List ℕ) (l : Layout) (near : List ℕ) (p : Position) (row : ℕ) : Type 0 where
+  pub file : Known b l
+  pub near-room : mostSeries ≤ length near
+  pub near-are : Nearest (accountOf b l) (l .positions) near
+  pub series-below : p .series < l .series
+  pub read : p ≡ accountOf b l .positionAt row
+
 -- Marks and unit margins of the rows before m.
 pub record Marked (a : Account) (m : ℕ) (old new : List ℕ) : Type 0 where
-  pub marks : (r : ℕ) → r < m → nth new r ≡ markOf (limiterFits a r) (a .positionAt r)
+  pub marks : (r : ℕ) → r < m → nth new r ≡ markOf (fitsLanes a r) (a .positionAt r)
   pub units : (r : ℕ) → r < m → nth new (unitColumn + r) ≡ ifWritten (a .positionAt r .side) (unitMargin (seriesOfRow a r) (a .positionAt r))
   pub lines : SameLines old new

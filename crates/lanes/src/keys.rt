@@ -60,8 +60,7 @@ fn may_be_paired(p: Position) -> bool
     (flags.european | flags.beforeAnnex) & !flags.knockedOut
 }
 
-// Of a row that may be paired: 0 for a held one whose limiter fits, which is no nearer than some written row's of its series, 1
-// for a written one. 2 for all others.
+// Of a row that may be paired: 0 for a held one that fits the lanes, 1 for a written one. 2 for all others.
 fn role_of(fits: bool, p: Position) -> u64
     ensures { λ r. ⌜ (r ≡ roleOf fits p) × (r ≤ 2) ⌝ }
 {

@@ -16,8 +16,9 @@ use rules::Side;
 ghost use Prim.Native.Nat.{_<_};
 ghost use mathlib.Core.Path.{_≡_};
 ghost use Rattle.account.specs.Known.{Known};
+ghost use Rattle.lanes.specs.Keys.{fitsLanes};
 ghost use Rattle.lanes.specs.Limiters.{ifWritten};
-ghost use Rattle.lanes.specs.Marks.{Marked, MarksAsked, TableAsked, TableFilled};
+ghost use Rattle.lanes.specs.Marks.{FitsAsked, Marked, MarksAsked, TableAsked, TableFilled};
 ghost use Rattle.rules.specs.File.{accountOf};
 ghost use Rattle.rules.specs.OnePosition.{unitMargin};
 
@@ -38,8 +39,16 @@ fn unit_of_row(file: &[u8], l: Layout, p: Position) -> u64
     }
 }
 
-// Marks and unit margins of all rows. A held row's limiter fits where it is no nearer than the nearest of its series' written
-// rows.
+// Whether a held row fits the lanes: its limiter is no nearer than the nearest of its series' written rows, and some of its
+// contracts are not blocked.
+fn fits_lanes(file: &[u8], l: Layout, near: &[u64], p: Position, row: usize) -> bool
+    requires { ⌜ FitsAsked (now file) l (now near) p row ⌝ }
+    ensures { λ r. ⌜ r ≡ fitsLanes (accountOf (now (file .entry)) l) row ⌝ }
+{
+    (nearness_of(file, l, p) <= near[p.series as usize]) & (p.blocked < p.q)
+}
+
+// Marks and unit margins of all rows.
 fn fill_marks(file: &[u8], l: Layout, near: &[u64], table: &mut [u64])
     requires { ⌜ MarksAsked (now file) l (now near) (now table) ⌝ }
     ensures { λ _. ⌜ Marked (accountOf (now (file .entry)) l) (l .positions) (now (table .entry)) (now (table .exit)) ⌝ }
@@ -48,7 +57,7 @@ fn fill_marks(file: &[u8], l: Layout, near: &[u64], table: &mut [u64])
     let mut r = 0;
     while r < n {
         let p = position_at(file, l, r);
-        table[r] = mark_of(nearness_of(file, l, p) <= near[p.series as usize], p);
+        table[r] = mark_of(fits_lanes(file, l, near, p, r), p);
         table[UNITS + r] = unit_of_row(file, l, p);
         r += 1;
     }

@@ -6,7 +6,7 @@
 use Rattle.lent.proofs.Walk.{_≡_, refl, Bool, ℕ, _<_, _≤_, _^_, _*_, [], _∷_, List, length, URA, fullShare, named, w64, Val, vint, SProp, ent, id⊢, Lft, Share, GName, Fml, ftrue, flft, fobs, fauth, fobor, flent, Memory, Routine, Heap, Env, Calls, Loops, Atoms, Fun, Ends, lands, Given, Item, runs, ‵, raw, _⊛_, ⋆, _$_, _∵_, !, qed, move, use1, split, join, rewrite, fsplit, fjoin, frame, done, drop, use3, Seq, FmC, pureI, Is, shares, uint-makes, usize, u64, bool, RefT, sliceVal, MutSlice, ShrSlice, Room, heres, codedHoleys, at-slice, shr-slice-copy, Held, row, opens-slice, closes-slice, owned, nothing, tripleOf, Contract, Triple, calls-at, lasts, says, arr-parts}
 use mir.Syntax.{Place, Opd as Operand, Body, seq, call}
 use types.Run.{Opds}
-use Rattle.lines.specs.LineNumbers.{linesFrom, mostNumbers, numbersPerLine}
+use Rattle.lines.specs.LineNumbers.{linesFrom, numbersPerLine}
 use Rattle.rules.specs.Instalments.{beginsWith}
 use Rattle.rules.specs.declared.Line.{Line}
 use Rattle.lent.proofs.Calling.{returned}
@@ -22,7 +22,7 @@ module _ {M : Type 1} (𝓤 : URA M) (H : Heap 𝓤) (A : Atoms 𝓤) (mem : Mem
 
 -- The first n entries of lines, x, are compared with the numbers in the block l.
 module _ {M : Type 1} (𝓤 : URA M) (H : Heap 𝓤) (A : Atoms 𝓤) (W : Given 𝓤 H A) (mem : Memory → SProp 𝓤) (run : Routine → Fun 𝓤) (κ : Lft) (p : Share) (x : RefT (List Line)) (room : Room T.the-row (length (x .now))) (n : ℕ) (n-fits : n < 2 ^ 64)
-    (l : ℕ) (numbers : List ℕ) (long : length numbers ≡ mostNumbers) (there : (n ≤ length (x .now)) × (numbersPerLine * n ≤ length numbers)) where
+    (l : ℕ) (size : ℕ) (fits : Room u64 size) (numbers : List ℕ) (long : length numbers ≡ size) (there : (n ≤ length (x .now)) × (numbersPerLine * n ≤ length numbers)) where
   abbrev ys : List Line
   ys = x .now
 
@@ -47,14 +47,14 @@ module _ {M : Type 1} (𝓤 : URA M) (H : Heap 𝓤) (A : Atoms 𝓤) (W : Given
   Read μ δ = ShrSlice (named 0) μ T.the-row .own (under δ) (s ∷ [])
 
   abbrev Numbers : ℕ → GName → Fml
-  Numbers ν δ = ShrSlice (named 1) (ν ∷ []) u64 .own (array l δ numbers) (array-slice l ∷ [])
+  Numbers ν δ = ShrSlice (named 1) (ν ∷ []) u64 .own (array l δ numbers) (array-slice size l ∷ [])
 
   abbrev args : GName → GName → RefT (List Line) × (ℕ × (RefT (List ℕ) × Unit {0}))
   args δ δ′ = (under δ, (n, (array l δ′ numbers, tt)))
 
   -- what the callee's contract is taken at, and that the caller has what it asks
   abbrev to : Lft → Share → GName → ℕ → GName → Agree 𝓤 H A mem run .Ghost
-  to μ r δ ν δ′ = (((μ, (ν ∷ [], tt)), (r, (fullShare, tt)), tt, args δ δ′, (s ∷ [], (vint w64 n ∷ [], (array-slice l ∷ [], tt)))), tt)
+  to μ r δ ν δ′ = (((μ, (ν ∷ [], tt)), (r, (fullShare, tt)), tt, args δ δ′, (s ∷ [], (vint w64 n ∷ [], (array-slice size l ∷ [], tt)))), tt)
 
   goes : (μ : Lft) (r : Share) (δ : GName) (ν : ℕ) (δ′ : GName) → ent 𝓤 (⋆ 𝓤 H A ((‵ (flft μ r) ⊛ ‵ (flft (ν ∷ []) fullShare)) ∷ ‵ (Read μ δ) ∷ ‵ (Numbers ν δ′) ∷ [])) (Agree 𝓤 H A mem run .pre (to μ r δ ν δ′))
   goes μ r δ ν δ′ =
@@ -77,7 +77,7 @@ module _ {M : Type 1} (𝓤 : URA M) (H : Heap 𝓤) (A : Atoms 𝓤) (W : Given
     calls-agree t fm known os k =
         fsplit t $ drop t $ fsplit t $ opens-slice t tt T.the-row ys b o $ move t (2 ∷ 3 ∷ []) $ join t $ move t (2 ∷ 0 ∷ []) $ join t $ move t (1 ∷ 2 ∷ []) $
         -- [the lines; the numbers; what is kept]
-        shares-row t tt T.the-row (named 0) fullShare ys b o room (λ ν δ. move t (3 ∷ []) $ shares-row t tt u64 (named 1) fullShare numbers l 0 (array-room (length numbers) long) (λ ν′ δ′.
+        shares-row t tt T.the-row (named 0) fullShare ys b o room (λ ν δ. move t (3 ∷ []) $ shares-row t tt u64 (named 1) fullShare numbers l 0 (array-room fits (length numbers) long) (λ ν′ δ′.
         rewrite t 0 (λ (i : ℕ). ‵ (ShrSlice (named 1) (ν′ ∷ []) u64 .own (array l δ′ numbers) (sliceVal (l, 0) i ∷ []))) long refl $
         -- [the numbers, shared; what brings them back; the token ν′; the lines, shared; what brings them back; the token ν; what is kept]
         move t (1 ∷ 4 ∷ []) $ join t $ move t (4 ∷ 2 ∷ []) $ join t $ move t (0 ∷ 3 ∷ 2 ∷ []) $ use3 W (raw (Agree 𝓤 H A mem run .pre (to (ν ∷ []) fullShare δ ν′ δ′))) (goes (ν ∷ []) fullShare δ ν′ δ′) $
@@ -94,7 +94,7 @@ module _ {M : Type 1} (𝓤 : URA M) (H : Heap 𝓤) (A : Atoms 𝓤) (W : Given
         → ((w : Val) (t : Bool) → t ≡ beginsWith (linesFrom numbers n) ys → Is bool t (w ∷ []) → Seq K W (‵ (Read κ (x .name)) ∷ ‵ (flft κ p) ∷ ‵ (row u64 fullShare numbers l 0) ∷ Γ) (lands C Λ En d w rest q))
         → Seq K W (‵ (Read κ (x .name)) ∷ ‵ (flft κ p) ∷ ‵ (row u64 fullShare numbers l 0) ∷ Γ) (runs C Λ En (seq (call #lent·agree xs d) rest) q)
     calls-agree-shared t fm known os k =
-        use1 W (‵ (Read κ (x .name)) ⊛ ‵ (Read κ (x .name))) (shr-slice-copy 𝓤 H A W (named 0) κ T.the-row .twice x (s ∷ [])) $ split t $ move t (3 ∷ []) $ shares-row t tt u64 (named 1) fullShare numbers l 0 (array-room (length numbers) long) (λ ν δ.
+        use1 W (‵ (Read κ (x .name)) ⊛ ‵ (Read κ (x .name))) (shr-slice-copy 𝓤 H A W (named 0) κ T.the-row .twice x (s ∷ [])) $ split t $ move t (3 ∷ []) $ shares-row t tt u64 (named 1) fullShare numbers l 0 (array-room fits (length numbers) long) (λ ν δ.
         rewrite t 0 (λ (i : ℕ). ‵ (ShrSlice (named 1) (ν ∷ []) u64 .own (array l δ numbers) (sliceVal (l, 0) i ∷ []))) long refl $
         -- [the numbers, shared; what brings them back; the token ν; lines; lines; its token]
         move t (5 ∷ 2 ∷ []) $ join t $ move t (0 ∷ 3 ∷ 1 ∷ 4 ∷ []) $ use3 W (raw (Agree 𝓤 H A mem run .pre (to κ p (x .name) ν δ))) (goes κ p (x .name) ν δ) $

@@ -2,13 +2,12 @@
 -- operation keeps [lines; its token; the numbers; file's token; file; …] before and after each call: the step lends the
 -- numbers for the call and has them back as the callee left them. The operands are looked up where they stand before the step.
 -- Assumes `Given`.
-use Rattle.lent.proofs.Walk.{_≡_, refl, ℕ, [], _∷_, List, length, URA, fullShare, named, Val, ent, Lft, Share, GName, Fml, ftrue, flft, flent, Heap, Env, Calls, Loops, Atoms, Ends, lands, Given, Item, runs, ‵, raw, _⊛_, ⋆, _$_, move, use1, split, join, rewrite, drop, use3, Seq, FmC, Is, u64, u8, RefT, sliceVal, MutSlice, ShrSlice, shr-slice-copy, finally, Held, row, Contract, Triple, calls-at}
+use Rattle.lent.proofs.Walk.{_≡_, refl, ℕ, [], _∷_, List, length, URA, fullShare, named, Val, ent, Lft, Share, GName, Fml, ftrue, flft, flent, Heap, Env, Calls, Loops, Atoms, Ends, lands, Given, Item, runs, ‵, raw, _⊛_, ⋆, _$_, move, use1, split, join, rewrite, drop, use3, Seq, FmC, Is, u64, u8, RefT, sliceVal, MutSlice, ShrSlice, Room, shr-slice-copy, finally, Held, row, Contract, Triple, calls-at}
 use mir.Syntax.{Name, Place, Opd as Operand, Body, seq, call}
 use contract.Monad.{fact}
 use denote.RattleType.{RattleType}
 use types.Kit.{later, mean, some}
 use types.Run.{Opds}
-use Rattle.lines.specs.LineNumbers.{mostNumbers}
 use Rattle.lent.proofs.Calling.{returned}
 use Rattle.lent.proofs.Lending.{lends-row, row-back}
 use Rattle.lent.proofs.Zeros.{array, array-room, array-slice}
@@ -17,10 +16,10 @@ use Rattle.lent.proofs.Zeros.{array, array-room, array-slice}
 abbrev pub File : Lft → RefT (List ℕ) → Fml
 File κ f = ShrSlice (named 0) κ u8 .own f (sliceVal (f .ptr) (length (f .now)) ∷ [])
 
-abbrev pub Lent : ℕ → List ℕ → ℕ → GName → Fml
-Lent l numbers ν δ = MutSlice (named 1) (ν ∷ []) u64 .own (array l δ numbers) (array-slice l ∷ [])
+abbrev pub Lent : ℕ → ℕ → List ℕ → ℕ → GName → Fml
+Lent size l numbers ν δ = MutSlice (named 1) (ν ∷ []) u64 .own (array l δ numbers) (array-slice size l ∷ [])
 
-module _ {M : Type 1} (𝓤 : URA M) (H : Heap 𝓤) (A : Atoms 𝓤) (W : Given 𝓤 H A) (κ : Lft) (p : Share) (f : RefT (List ℕ)) (l : ℕ) (numbers : List ℕ) (long : length numbers ≡ mostNumbers) where
+module _ {M : Type 1} (𝓤 : URA M) (H : Heap 𝓤) (A : Atoms 𝓤) (W : Given 𝓤 H A) (κ : Lft) (p : Share) (f : RefT (List ℕ)) (l : ℕ) (size : ℕ) (fits : Room u64 size) (numbers : List ℕ) (long : length numbers ≡ size) where
   abbrev Tokens : ℕ → Item 𝓤
   Tokens ν = ‵ (flft κ p) ⊛ (‵ (flft (ν ∷ []) fullShare) ⊛ ‵ ftrue)
 
@@ -28,7 +27,7 @@ module _ {M : Type 1} (𝓤 : URA M) (H : Heap 𝓤) (A : Atoms 𝓤) (W : Given
   -- the last values of its `&mut`s, of which `zs vs` are the numbers, and φ is what the contract says of the result and of vs.
   module _ {K : Type 0} {i j : Item 𝓤} {Γ : List (Item 𝓤)} {En : Env 𝓤 H} {C : Calls 𝓤 H} {Λ : Loops 𝓤 H} {q : Ends 𝓤 H} {name : Name} {xs : List Operand} {d : Place} {rest : Body} where
     pub calls-lending : K → FmC 𝓤 H (W .laws) C → (c : Contract 𝓤) → Triple 𝓤 (C name) c → (to : ℕ → GName → c .Ghost)
-        → ((ν : ℕ) (δ : GName) → ent 𝓤 (⋆ 𝓤 H A (‵ (flft κ p) ∷ ‵ (flft (ν ∷ []) fullShare) ∷ (‵ (Lent l numbers ν δ) ⊛ ‵ (File κ f)) ∷ [])) (c .pre (to ν δ)))
+        → ((ν : ℕ) (δ : GName) → ent 𝓤 (⋆ 𝓤 H A (‵ (flft κ p) ∷ ‵ (flft (ν ∷ []) fullShare) ∷ (‵ (Lent size l numbers ν δ) ⊛ ‵ (File κ f)) ∷ [])) (c .pre (to ν δ)))
         → (R : RattleType) {Ls : Type 0} (last : ℕ → GName → Ls → Fml) (zs : Ls → List ℕ) (φ : R .Denot → List ℕ → Type 0)
         → ((ν : ℕ) (δ : GName) (w : Val) → ent 𝓤 (c .post (to ν δ) w) (mean 𝓤 H A (later (some (λ (r : R .Denot). (Tokens ν ⊛ ‵ (R .own r (w ∷ []))) ⊛ some (λ (vs : Ls). ‵ (last ν δ vs) ⊛ raw (fact 𝓤 (φ r (zs vs)))))))))
         → ((ν : ℕ) (δ : GName) (vs : Ls) → ent 𝓤 (⋆ 𝓤 H A (‵ (last ν δ vs) ∷ [])) (⋆ 𝓤 H A (‵ (finally u64 δ (zs vs)) ∷ [])))
@@ -37,7 +36,7 @@ module _ {M : Type 1} (𝓤 : URA M) (H : Heap 𝓤) (A : Atoms 𝓤) (W : Given
         → Seq K W (i ∷ j ∷ ‵ (row u64 fullShare numbers l 0) ∷ ‵ (flft κ p) ∷ ‵ (File κ f) ∷ Γ) (runs C Λ En (seq (call name xs d) rest) q)
     calls-lending t fm c known to goes R {Ls} last zs φ gives left os k =
         move t (4 ∷ []) $ use1 W (‵ (File κ f) ⊛ ‵ (File κ f)) (shr-slice-copy 𝓤 H A W (named 0) κ u8 .twice f (sliceVal (f .ptr) (length (f .now)) ∷ [])) $ split t $ move t (4 ∷ []) $
-        lends-row t tt u64 (named 1) numbers l 0 (array-room (length numbers) long) (λ ν δ. rewrite t 0 (λ (m : ℕ). ‵ (MutSlice (named 1) (ν ∷ []) u64 .own (array l δ numbers) (sliceVal (l, 0) m ∷ []))) long refl $
+        lends-row t tt u64 (named 1) numbers l 0 (array-room fits (length numbers) long) (λ ν δ. rewrite t 0 (λ (m : ℕ). ‵ (MutSlice (named 1) (ν ∷ []) u64 .own (array l δ numbers) (sliceVal (l, 0) m ∷ []))) long refl $
         -- [the numbers, lent; what brings them back; the token ν; file; file; i; j; file's token]
         move t (0 ∷ 3 ∷ []) $ join t $ move t (6 ∷ 2 ∷ 0 ∷ 1 ∷ 4 ∷ 5 ∷ []) $ use3 W (raw (c .pre (to ν δ))) (goes ν δ) $
         calls-at t fm c known (to ν δ) (os ν δ) (λ w.

@@ -1,10 +1,10 @@
 -- The call of `write_entries` as one step. The walk of an operation keeps [lines; its token; the numbers; …] before and
 -- after each call: the step shares the numbers for the call and gives lines to the callee for good, so that its last list
 -- stands in its place afterwards. The operands are looked up where they stand before the step. Assumes `Given`.
-use Rattle.lent.proofs.Walk.{_≡_, refl, ℕ, _<_, _≤_, _^_, _*_, [], _∷_, List, length, URA, fullShare, named, w64, Val, vint, SProp, ent, id⊢, Lft, Share, GName, Fml, ftrue, flft, flent, Memory, Routine, Heap, Env, Calls, Loops, Atoms, Fun, Ends, lands, Given, Item, runs, ‵, raw, _⊛_, ⋆, _$_, _∵_, !, qed, move, split, join, rewrite, fsplit, fjoin, frame, done, drop, use3, feqL, Seq, FmC, Is, shares, uint-makes, usize, u64, unit, RefT, sliceVal, MutSlice, ShrSlice, finally, row, owned, nothing, tripleOf, Contract, Triple, calls-at, lasts, says, arr-parts}
+use Rattle.lent.proofs.Walk.{_≡_, refl, ℕ, _<_, _≤_, _^_, _*_, [], _∷_, List, length, URA, fullShare, named, w64, Val, vint, SProp, ent, id⊢, Lft, Share, GName, Fml, ftrue, flft, flent, Memory, Routine, Heap, Env, Calls, Loops, Atoms, Fun, Ends, lands, Given, Item, runs, ‵, raw, _⊛_, ⋆, _$_, _∵_, !, qed, move, split, join, rewrite, fsplit, fjoin, frame, done, drop, use3, feqL, Seq, FmC, Is, shares, uint-makes, usize, u64, unit, RefT, sliceVal, MutSlice, ShrSlice, Room, finally, row, owned, nothing, tripleOf, Contract, Triple, calls-at, lasts, says, arr-parts}
 use mir.Syntax.{Place, Opd as Operand, Body, seq, call}
 use types.Run.{Opds}
-use Rattle.lines.specs.LineNumbers.{mostNumbers, numbersPerLine}
+use Rattle.lines.specs.LineNumbers.{numbersPerLine}
 use Rattle.rules.specs.declared.Line.{Line}
 use Rattle.lent.specs.Entries.{entriesWritten}
 use Rattle.lent.proofs.Calling.{returned}
@@ -20,7 +20,7 @@ module _ {M : Type 1} (𝓤 : URA M) (H : Heap 𝓤) (A : Atoms 𝓤) (mem : Mem
 
 -- Entries m to n - 1 of lines, x, are written out of the numbers in the block l.
 module _ {M : Type 1} (𝓤 : URA M) (H : Heap 𝓤) (A : Atoms 𝓤) (W : Given 𝓤 H A) (mem : Memory → SProp 𝓤) (run : Routine → Fun 𝓤) (κ : Lft) (p : Share) (x : RefT (List Line)) (m n : ℕ) (m-fits : m < 2 ^ 64) (n-fits : n < 2 ^ 64)
-    (l : ℕ) (numbers : List ℕ) (long : length numbers ≡ mostNumbers) (fit : (m ≤ n) × (n ≤ length (x .now)) × (numbersPerLine * n ≤ length numbers)) where
+    (l : ℕ) (size : ℕ) (fits : Room u64 size) (numbers : List ℕ) (long : length numbers ≡ size) (fit : (m ≤ n) × (n ≤ length (x .now)) × (numbersPerLine * n ≤ length numbers)) where
   abbrev s : Val
   s = sliceVal (x .ptr) (length (x .now))
 
@@ -28,14 +28,14 @@ module _ {M : Type 1} (𝓤 : URA M) (H : Heap 𝓤) (A : Atoms 𝓤) (W : Given
   Lines = MutSlice (named 0) κ T.the-row .own x (s ∷ [])
 
   abbrev Numbers : ℕ → GName → Fml
-  Numbers ν δ = ShrSlice (named 1) (ν ∷ []) u64 .own (array l δ numbers) (array-slice l ∷ [])
+  Numbers ν δ = ShrSlice (named 1) (ν ∷ []) u64 .own (array l δ numbers) (array-slice size l ∷ [])
 
   abbrev args : GName → RefT (List Line) × (ℕ × (ℕ × (RefT (List ℕ) × Unit {0})))
   args δ = (x, (m, (n, (array l δ numbers, tt))))
 
   -- what the callee's contract is taken at, and that the caller has what it asks
   abbrev to : ℕ → GName → WriteEntries 𝓤 H A mem run .Ghost
-  to ν δ = (((κ, (ν ∷ [], tt)), (p, (fullShare, tt)), tt, args δ, (s ∷ [], (vint w64 m ∷ [], (vint w64 n ∷ [], (array-slice l ∷ [], tt))))), tt)
+  to ν δ = (((κ, (ν ∷ [], tt)), (p, (fullShare, tt)), tt, args δ, (s ∷ [], (vint w64 m ∷ [], (vint w64 n ∷ [], (array-slice size l ∷ [], tt))))), tt)
 
   goes : (ν : ℕ) (δ : GName) → ent 𝓤 (⋆ 𝓤 H A ((‵ (flft κ p) ⊛ ‵ (flft (ν ∷ []) fullShare)) ∷ ‵ Lines ∷ ‵ (Numbers ν δ) ∷ [])) (WriteEntries 𝓤 H A mem run .pre (to ν δ))
   goes ν δ =
@@ -48,7 +48,7 @@ module _ {M : Type 1} (𝓤 : URA M) (H : Heap 𝓤) (A : Atoms 𝓤) (W : Given
         → ((w : Val) (r : Unit {0}) (us : List Line) → us ≡ entriesWritten numbers m n (x .now) → length us ≡ length (x .now) → Is unit r (w ∷ []) → Seq K W (‵ (finally T.the-row (x .name) us) ∷ ‵ (flft κ p) ∷ ‵ (row u64 fullShare numbers l 0) ∷ Γ) (lands C Λ En d w rest q))
         → Seq K W (‵ Lines ∷ ‵ (flft κ p) ∷ ‵ (row u64 fullShare numbers l 0) ∷ Γ) (runs C Λ En (seq (call #lent·write-entries xs d) rest) q)
     calls-write t fm known os k =
-        move t (2 ∷ []) $ shares-row t tt u64 (named 1) fullShare numbers l 0 (array-room (length numbers) long) (λ ν δ. rewrite t 0 (λ (i : ℕ). ‵ (ShrSlice (named 1) (ν ∷ []) u64 .own (array l δ numbers) (sliceVal (l, 0) i ∷ []))) long refl $
+        move t (2 ∷ []) $ shares-row t tt u64 (named 1) fullShare numbers l 0 (array-room fits (length numbers) long) (λ ν δ. rewrite t 0 (λ (i : ℕ). ‵ (ShrSlice (named 1) (ν ∷ []) u64 .own (array l δ numbers) (sliceVal (l, 0) i ∷ []))) long refl $
         -- [the numbers, shared; what brings them back; the token ν; lines; its token]
         nothing t $ move t (5 ∷ 3 ∷ []) $ join t $ move t (0 ∷ 4 ∷ 2 ∷ []) $ use3 W (raw (WriteEntries 𝓤 H A mem run .pre (to ν δ))) (goes ν δ) $ move t (0 ∷ 2 ∷ []) $
         calls-at t fm (WriteEntries 𝓤 H A mem run) known (to ν δ) (os ν δ) (λ w.

@@ -1,4 +1,4 @@
--- The lines of an array of zeros, `[0; MOST_NUMBERS]`, and a list after some of them are written: over plain lists and numbers.
+-- The lines of an array of zeros, `[0; size]`, and a list after some of them are written: over plain lists and numbers.
 -- Assumes nothing.
 use Prim.Native.Nat.{ℕ, zero, suc, _+_, _-_, _*_, _≤_}
 use mathlib.Core.List.{List, [], _∷_, _++_, append-assoc}
@@ -13,25 +13,25 @@ use Rattle.lines.specs.LineNumbers.{lineFrom, linesFrom, numbersPerLine}
 use Rattle.rules.specs.TakingApart.{zeroEntries, zeroEntry}
 use Rattle.rules.specs.declared.Line.{Line}
 
-zero-line : (i : ℕ) → lineFrom zeros i ≡ zeroEntry
-zero-line i = rw (zeros-get (numbersPerLine * i), zeros-get (numbersPerLine * i + 1), zeros-get (numbersPerLine * i + 2))
+zero-line : (size i : ℕ) → lineFrom (zeros size) i ≡ zeroEntry
+zero-line size i = rw (zeros-get size (numbersPerLine * i), zeros-get size (numbersPerLine * i + 1), zeros-get size (numbersPerLine * i + 2))
 
-zero-lines : (n : ℕ) → linesFrom zeros n ≡ zeroEntries n
+zero-lines : (size n : ℕ) → linesFrom (zeros size) n ≡ zeroEntries n
 unfolding linesFrom
-zero-lines zero = refl
-zero-lines (suc n) =
-    ap₂ (λ (l : List Line) (x : Line). l ++ (x ∷ [])) (zero-lines n) (zero-line n)
+zero-lines size zero = refl
+zero-lines size (suc n) =
+    ap₂ (λ (l : List Line) (x : Line). l ++ (x ∷ [])) (zero-lines size n) (zero-line size n)
     ∙ replicate-append-replicate n 1 zeroEntry
     ∙ ap zeroEntries (add-one n)
 
 -- Lines m to n - 1 of the zeros written into a list.
-pub zeros-written : (m n : ℕ) (ys : List Line) → m ≤ n
-    → entriesWritten zeros m n ys ≡ take m ys ++ (zeroEntries (n - m) ++ drop n ys)
+pub zeros-written : (size m n : ℕ) (ys : List Line) → m ≤ n
+    → entriesWritten (zeros size) m n ys ≡ take m ys ++ (zeroEntries (n - m) ++ drop n ys)
 unfolding entriesWritten
-zeros-written m n ys h =
+zeros-written size m n ys h =
     let sum : n ≡ m + (n - m) = omega (arith, h) in
-    let parts : linesFrom zeros n ≡ zeroEntries m ++ zeroEntries (n - m) =
-    zero-lines n ∙ ap zeroEntries sum ∙ sym (replicate-append-replicate m (n - m) zeroEntry) in
+    let parts : linesFrom (zeros size) n ≡ zeroEntries m ++ zeroEntries (n - m) =
+    zero-lines size n ∙ ap zeroEntries sum ∙ sym (replicate-append-replicate m (n - m) zeroEntry) in
     ap (λ (l : List Line). take m ys ++ drop m (l ++ drop n ys)) parts
     ∙ ap (λ (l : List Line). take m ys ++ drop m l) (append-assoc (zeroEntries m) (zeroEntries (n - m)) (drop n ys))
     ∙ ap (λ (l : List Line). take m ys ++ l) (drop-at (zeroEntries m) _ m (length-replicate m zeroEntry))

@@ -4,17 +4,22 @@ use Prim.Native.Nat.{ℕ, zero, suc, _+_, _*_, _/_, _%_, _≤_, _<_}
 use mathlib.Core.List.{List, [], _∷_, _++_}
 use mathlib.Core.Path.{_≡_}
 use lib.ListN.{getD}
+use Rattle.rules.specs.Limits.{mostPositions}
 use Rattle.rules.specs.Lines.{mostLines}
 use Rattle.rules.specs.declared.Line.{Line}
 use Rattle.rules.specs.declared.MarginAnswer.{MarginAnswer}
 use Rattle.rules.specs.declared.MarginAnswer.the-variants.{Total, NoTotal}
 
--- The numbers of one line, and those of as many lines as an account has at most.
+-- The numbers of one line, those of as many lines as an account has at most, and of as many as it has pairs at most: there are
+-- fewer pairs than positions, or none (`Counts.made-below`).
 abbrev pub numbersPerLine : ℕ
 numbersPerLine = 3
 
 abbrev pub mostNumbers : ℕ
 mostNumbers = numbersPerLine * mostLines
+
+abbrev pub mostPairNumbers : ℕ
+mostPairNumbers = numbersPerLine * mostPositions
 
 -- Kind, second and third number in one: the kind has 2 bits of it, the second number 8, the third the rest.
 abbrev pub headOf : Line → ℕ

@@ -1,18 +1,32 @@
 // Lines as plain numbers, three to a line: a row and contracts are small, so that kind, second and third number stand in one.
 use rules::Line;
 use rules::MOST_LINES;
+use rules::MOST_POSITIONS;
 ghost use Prim.Native.Nat.{_+_, _*_, _≤_};
 ghost use lib.ListN.{length};
 ghost use mathlib.Core.Bool.{_&&_};
 ghost use mathlib.Core.Path.{_≡_};
 ghost use Rattle.lines.specs.LineNumbers.{LineWritten, Packable, lineFrom, numbersPerLine};
 ghost use Rattle.rules.specs.Instalments.{sameLine};
+ghost use Rattle.rules.specs.Limits.{mostPositions};
+ghost use Rattle.rules.specs.Lines.{entriesFor};
 
 // The numbers of one line, `numbersPerLine` in contracts.
 pub const NUMBERS_PER_LINE: usize = 3;
 
 // The numbers of as many lines as an account has at most, `mostNumbers` in contracts.
 pub const MOST_NUMBERS: usize = NUMBERS_PER_LINE * MOST_LINES;
+
+// The numbers of as many lines as an account has pairs at most, `mostPairNumbers` in contracts.
+pub const MOST_PAIR_NUMBERS: usize = NUMBERS_PER_LINE * MOST_POSITIONS;
+
+// How many entries a list needs for an account of p positions.
+pub fn entries_for(p: usize) -> usize
+    requires { ⌜ p ≤ mostPositions ⌝ }
+    ensures { λ r. ⌜ r ≡ entriesFor p ⌝ }
+{
+    2 * p
+}
 
 // Line i of the numbers.
 pub fn line_at(numbers: &[u64], i: usize) -> Line

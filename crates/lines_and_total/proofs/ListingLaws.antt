@@ -14,7 +14,7 @@ use borrow.Author.Tests.{le-ltb, lt-ltb}
 use Rattle.lines.proofs.LinesHeld.{lines-more, lines-same}
 use Rattle.lines.specs.LineNumbers.{LineWritten, linesFrom}
 use Rattle.numbers.specs.Lists.{nth}
-use Rattle.lines_and_total.specs.Listing.{Added, RowAsked, RowsAsked, leftOf}
+use Rattle.lines_and_total.specs.Listing.{Added, RowAsked, RowsAsked, leftOf, shownLeft}
 use Rattle.pairing.specs.declared.Tally.{Tally}
 use Rattle.rules.proofs.LineLaws.{length-leftLines}
 use Rattle.rules.proofs.Sums.{sumOver-append, sumTo-more}
@@ -83,19 +83,20 @@ added-both x y n₀ n₁ n₂ t₀ t₁ t₂ f g =
       numbers-length = g .numbers-length ∙ f .numbers-length;
     }
 
--- A row without contracts left has no line.
-pub row-none : (a : Account) (left : ℕ → ℕ) (row : ℕ) (n : List ℕ) (t : Tally) → left row ≡ 0 → Added (leftOf a left row) n n t t
-row-none a left row n t e = let z : ltb 0 (left row) ≡ false = le-ltb 0 (left row) (omega arith) in rw z (added-none n t)
+-- A row without contracts left has no line. q is what the code read of them.
+pub row-none : (a : Account) (left : ℕ → ℕ) (row q : ℕ) (n : List ℕ) (t : Tally) → q ≡ left row → q ≡ 0 → Added (leftOf a left row) n n t t
+row-none a left row q n t is e = let z : ltb 0 (left row) ≡ false = le-ltb 0 (left row) (omega (arith, is)) in rw z (added-none n t)
 
 -- A row with contracts left has one.
-pub row-one : (a : Account) (left : ℕ → ℕ) (row m : ℕ) (n n′ : List ℕ) (t : Tally) → (left row ≡ 0 → ⊥)
-    → m ≡ leftAmountAt a row (left row) → m ≤ 10_000_000_000_000_000
-    → LineWritten (t .count) (leftEntry row (left row) m) n n′ → length n′ ≡ length n
+pub row-one : (a : Account) (left : ℕ → ℕ) (row q m : ℕ) (n n′ : List ℕ) (t : Tally) → q ≡ left row → (q ≡ 0 → ⊥)
+    → m ≡ leftAmountAt a row q → m ≤ 10_000_000_000_000_000
+    → LineWritten (t .count) (leftEntry row q m) n n′ → length n′ ≡ length n
     → Added (leftOf a left row) n n′ t (tally (t .count + 1) (t .total + m))
-row-one a left row m n n′ t some e most w len =
-    let z : ltb 0 (left row) ≡ true = lt-ltb 0 (left row) (omega arith) in
-    let is = ap (leftEntry row (left row)) e in
-    rw z (added-one (leftLine a row (left row)) m n n′ t (record { line-is = w .line-is ∙ is; before = w .before; after = w .after }) len e most)
+row-one a left row q m n n′ t is some e most w len =
+    let z : ltb 0 (left row) ≡ true = lt-ltb 0 (left row) (omega (arith, is)) in
+    let amount : m ≡ leftAmountAt a row (left row) = e ∙ ap (leftAmountAt a row) is in
+    let line = ap₂ (leftEntry row) is amount in
+    rw z (added-one (leftLine a row (left row)) m n n′ t (record { line-is = w .line-is ∙ line; before = w .before; after = w .after }) len amount most)
 
 -- No row yet, and one row more.
 pub rows-none : (a : Account) (left : ℕ → ℕ) (n : List ℕ) (t : Tally) → Added (leftLines a left 0) n n t t
@@ -112,7 +113,7 @@ rows-end a left r p n₀ n t₀ t h g f = let e : p ≡ r = omega arith in rw e 
 
 -- What the next row asks.
 pub row-asks : (b : List ℕ) (l : Layout) (table left n₀ n : List ℕ) (t₀ t : Tally) (row : ℕ) → RowsAsked b l table left n₀ t₀ → row < l .positions
-    → Added (leftLines (accountOf b l) (nth left) row) n₀ n t₀ t → RowAsked b l table left n t row
+    → Added (leftLines (accountOf b l) (shownLeft (accountOf b l) (nth left)) row) n₀ n t₀ t → RowAsked b l table left n t row
 row-asks b l table left n₀ n t₀ t row ok h f =
     record {
       file = ok .file;
@@ -127,9 +128,9 @@ row-asks b l table left n₀ n t₀ t row ok h f =
             arith,
             ok .few,
             f .count-is,
-            length-leftLines (accountOf b l) (nth left) row,
-            sumTo-more (λ r. min 1 (nth left r)) row,
-            sumTo-grows (λ r. min 1 (nth left r)) (row + 1) (l .positions) (omega arith),
+            length-leftLines (accountOf b l) (shownLeft (accountOf b l) (nth left)) row,
+            sumTo-more (λ r. min 1 (shownLeft (accountOf b l) (nth left) r)) row,
+            sumTo-grows (λ r. min 1 (shownLeft (accountOf b l) (nth left) r)) (row + 1) (l .positions) (omega arith),
           );
       total-most = omega (arith, ok .total-most, f .count-is, f .total-most);
     }

@@ -9,7 +9,7 @@ use Rattle.account.specs.Known.{Known}
 use Rattle.lanes.specs.Keys.{tableSize}
 use Rattle.lanes.specs.Marks.{Units}
 use Rattle.numbers.specs.Lists.{nth}
-use Rattle.lines.specs.LineNumbers.{linesFrom, mostNumbers}
+use Rattle.lines.specs.LineNumbers.{linesFrom, mostNumbers, mostPairNumbers}
 use Rattle.lines_and_total.specs.declared.Listed.{Listed}
 use Rattle.pairing.specs.declared.Instalment.{Instalment}
 use Rattle.pairing.specs.declared.Tally.{Tally}
@@ -23,9 +23,14 @@ use Rattle.rules.specs.declared.Line.{Line}
 use Rattle.rules.specs.declared.Position.{Position}
 use Rattle.rules.specs.declared.Series.{Series}
 
--- The first n numbers are the contracts of rows 0 to n - 1.
+-- The first n numbers are the contracts of rows 0 to n - 1 that may be paired.
 abbrev pub ContractsTo : Account → List ℕ → ℕ → Type 0
 ContractsTo a left n = (r : ℕ) → r < n → nth left r ≡ available a r
+
+-- The quantity of row r's left line, where pairing may still use left r contracts: the blocked ones count too (document 02
+-- [9]).
+abbrev pub shownLeft : Account → (ℕ → ℕ) → ℕ → ℕ
+shownLeft a left r = left r + a .positionAt r .blocked
 
 -- The line of row r, where it has contracts left.
 abbrev pub leftOf : Account → (ℕ → ℕ) → ℕ → List Line
@@ -53,6 +58,13 @@ pub record AmountAsked (b : List ℕ) (l : Layout) (row unit q : ℕ) : Type 0 w
       → unit ≡ unitMargin (seriesOfRow (accountOf b l) row) (accountOf b l .positionAt row)
   pub q-most : q ≤ 100_000
 
+-- What the quantity of one row's left line asks: a row of an accepted file, and contracts within their range.
+pub record LeftRead (b : List ℕ) (l : Layout) (left : List ℕ) (row : ℕ) : Type 0 where
+  pub file : Known b l
+  pub row-below : row < l .positions
+  pub lefts : l .positions ≤ length left
+  pub left-most : shownLeft (accountOf b l) (nth left) row ≤ 100_000
+
 -- What the line of one row asks: a row of an accepted file, the unit margins, contracts left within their range, and room
 -- for the line after the lines of t.
 pub record RowAsked (b : List ℕ) (l : Layout) (table left numbers : List ℕ) (t : Tally) (row : ℕ) : Type 0 where
@@ -61,9 +73,9 @@ pub record RowAsked (b : List ℕ) (l : Layout) (table left numbers : List ℕ) 
   pub table-room : tableSize ≤ length table
   pub units : Units (accountOf b l) table
   pub lefts : l .positions ≤ length left
-  pub left-most : nth left row ≤ 100_000
+  pub left-most : shownLeft (accountOf b l) (nth left) row ≤ 100_000
   pub room : mostNumbers ≤ length numbers
-  pub few : t .count + min 1 (nth left row) ≤ mostLines
+  pub few : t .count + min 1 (shownLeft (accountOf b l) (nth left) row) ≤ mostLines
   pub total-most : t .total ≤ 10_000_000_000_000_000 * t .count
 
 -- What the lines of all rows ask: together with the lines of t there are at most `mostLines`.
@@ -72,9 +84,9 @@ pub record RowsAsked (b : List ℕ) (l : Layout) (table left numbers : List ℕ)
   pub table-room : tableSize ≤ length table
   pub units : Units (accountOf b l) table
   pub lefts : l .positions ≤ length left
-  pub left-most : (r : ℕ) → r < l .positions → nth left r ≤ 100_000
+  pub left-most : (r : ℕ) → r < l .positions → shownLeft (accountOf b l) (nth left) r ≤ 100_000
   pub room : mostNumbers ≤ length numbers
-  pub few : t .count + sumTo (λ r. min 1 (nth left r)) (l .positions) ≤ mostLines
+  pub few : t .count + sumTo (λ r. min 1 (shownLeft (accountOf b l) (nth left) r)) (l .positions) ≤ mostLines
   pub total-most : t .total ≤ 10_000_000_000_000_000 * t .count
 
 -- The lines of the account after `count` rounds of pairing, how many of them are of pairs, and the sum of their amounts.
@@ -92,4 +104,4 @@ pub record PairsListed (a : Account) (count allowance : ℕ) (numbers : List ℕ
   pub first-is : r .first ≡ length (pairsAfter a count)
   pub count-is : r .pairs .count ≡ length (pairsAfter a (count + allowance))
   pub lines-are : linesFrom numbers (r .pairs .count) ≡ pairLines a (pairsAfter a (count + allowance))
-  pub numbers-length : length numbers ≡ mostNumbers
+  pub numbers-length : length numbers ≡ mostPairNumbers

@@ -13,7 +13,7 @@ use rules::Side;
 ghost use Prim.Native.Nat.{_+_, _≤_};
 ghost use mathlib.Core.Path.{_≡_};
 ghost use Rattle.numbers.specs.Lists.{nth};
-ghost use Rattle.lines_and_total.specs.Listing.{Added, AmountAsked, LeftAsked, RowAsked, RowsAsked, leftOf};
+ghost use Rattle.lines_and_total.specs.Listing.{Added, AmountAsked, LeftAsked, LeftRead, RowAsked, RowsAsked, leftOf, shownLeft};
 ghost use Rattle.rules.specs.File.{accountOf};
 ghost use Rattle.rules.specs.Lines.{leftAmount, leftAmountAt, leftLines};
 
@@ -39,6 +39,15 @@ fn left_amount(file: &[u8], l: Layout, row: usize, unit: u64, q: u64) -> u64
     left_by_side(s, p, unit, q)
 }
 
+// The quantity of a row's left line: what pairing may still use of it, and the blocked contracts.
+fn shown_left(file: &[u8], l: Layout, left: &[u64], row: usize) -> u64
+    requires { ⌜ LeftRead (now file) l (now left) row ⌝ }
+    ensures { λ r. ⌜ r ≡ shownLeft (accountOf (now (file .entry)) l) (nth (now (left .entry))) row ⌝ }
+{
+    let p = position_at(file, l, row);
+    left[row] + (p.blocked as u64)
+}
+
 // The line of a row, where it has contracts left, after the lines of t.
 fn left_row(
     file: &[u8],
@@ -50,9 +59,9 @@ fn left_row(
     row: usize,
 ) -> Tally
     requires { ⌜ RowAsked (now file) l (now table) (now left) (now numbers) t row ⌝ }
-    ensures { λ r. ⌜ Added (leftOf (accountOf (now (file .entry)) l) (nth (now (left .entry))) row) (now (numbers .entry)) (now (numbers .exit)) t r ⌝ }
+    ensures { λ r. ⌜ Added (leftOf (accountOf (now (file .entry)) l) (shownLeft (accountOf (now (file .entry)) l) (nth (now (left .entry)))) row) (now (numbers .entry)) (now (numbers .exit)) t r ⌝ }
 {
-    let q = left[row];
+    let q = shown_left(file, l, left, row);
     if q == 0 {
         return t;
     }
@@ -81,7 +90,7 @@ pub fn left_rows(
     before: Tally,
 ) -> Tally
     requires { ⌜ RowsAsked (now file) l (now table) (now left) (now numbers) before ⌝ }
-    ensures { λ r. ⌜ Added (leftLines (accountOf (now (file .entry)) l) (nth (now (left .entry))) (l .positions)) (now (numbers .entry)) (now (numbers .exit)) before r ⌝ }
+    ensures { λ r. ⌜ Added (leftLines (accountOf (now (file .entry)) l) (shownLeft (accountOf (now (file .entry)) l) (nth (now (left .entry)))) (l .positions)) (now (numbers .entry)) (now (numbers .exit)) before r ⌝ }
 {
     let p = l.positions;
     let mut t = before;

@@ -2,6 +2,7 @@
 use crate::listing::list_lines;
 use crate::premium::premium_sum;
 use account::reader::read_file;
+use lines::entries_for;
 use pairing::Tally;
 use rules::AmountAnswer;
 use rules::FileRead;
@@ -28,12 +29,12 @@ pub struct Listed {
     pub lines: Tally,
 }
 
-// The account of an accepted file, or refusal 12 where the caller's list has fewer entries than the file has positions.
+// The account of an accepted file, or refusal 12 where the caller's list has fewer entries than it needs.
 fn settle_accepted(file: &[u8], l: Layout, room: usize, numbers: &mut [u64]) -> MarginAnswer
     requires { ⌜ (fileRead (now file) ≡ Accepted l) × (length (now numbers) ≡ mostNumbers) ⌝ }
     ensures { λ r. ⌜ Settled (now (file .entry)) room (now (numbers .exit)) r ⌝ }
 {
-    if room < l.positions {
+    if room < entries_for(l.positions) {
         return MarginAnswer::NoTotal(Refusal::ListTooShort, 0);
     }
     let listed = list_lines(file, l, l.positions as u64, numbers);

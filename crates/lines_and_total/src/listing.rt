@@ -10,7 +10,7 @@ use rules::MOST_POSITIONS;
 ghost use lib.ListN.{length};
 ghost use mathlib.Core.Path.{_≡_};
 ghost use Rattle.account.specs.Known.{Known};
-ghost use Rattle.lines.specs.LineNumbers.{mostNumbers};
+ghost use Rattle.lines.specs.LineNumbers.{mostNumbers, mostPairNumbers};
 ghost use Rattle.lines_and_total.specs.Listing.{AccountListed, PairsListed};
 ghost use Rattle.rules.specs.File.{accountOf};
 
@@ -38,7 +38,7 @@ pub fn list_pairs(
     allowance: u64,
     numbers: &mut [u64],
 ) -> Instalment
-    requires { ⌜ Known (now file) l × (length (now numbers) ≡ mostNumbers) ⌝ }
+    requires { ⌜ Known (now file) l × (length (now numbers) ≡ mostPairNumbers) ⌝ }
     ensures { λ r. ⌜ PairsListed (accountOf (now (file .entry)) l) count allowance (now (numbers .exit)) r ⌝ }
 {
     let mut left = [0u64; MOST_POSITIONS];

@@ -9,8 +9,7 @@ use native.Mathlib.Omega.{arith}
 use borrow.Author.Tests.{eq-eqb}
 use Rattle.lanes.proofs.FileFacts.{Ranged}
 use Rattle.lanes.proofs.KeyLaws.{key-below, key-is, key-row, key-some, link-from-is, one-group, top-most}
-use Rattle.lanes.specs.Keys.{LeastKey, Links, family, from, inLanes, key, linkFrom, none, pairsAsHeld, pairsAsWritten, start, top}
-use Rattle.lanes.specs.Limiters.{limiterFits}
+use Rattle.lanes.specs.Keys.{LeastKey, Links, family, fitsLanes, from, inLanes, key, linkFrom, none, pairsAsHeld, pairsAsWritten, start, top}
 use Rattle.numbers.proofs.Order.{split}
 use Rattle.numbers.specs.Lists.{nth}
 use Rattle.pairing.specs.Cursors.{Cursor, Kept, Meets, Open, Places, Ranked, distance}
@@ -39,7 +38,7 @@ module _ (a : Account) (ok : Ranged a) (left : List ℕ) (w : ℕ) (lw : w < a .
   cursor-meets o u c t written =
       let h = u % 256 in
       let x = both (isWritten (a .positionAt w .side)) (mayBePaired (a .positionAt w)) written in
-      let z = both (pairsAsHeld (a .positionAt h)) (limiterFits a h) (cursor-lane o u c t) in
+      let z = both (pairsAsHeld (a .positionAt h)) (fitsLanes a h) (cursor-lane o u c t) in
       let y = both (isHeld (a .positionAt h .side)) (mayBePaired (a .positionAt h)) (z .0) in
       let series = cursor-group o u c t .0 in
       rw (x .0, x .1, y .0, y .1, eq-eqb (a .positionAt w .series) (a .positionAt h .series) series) refl
@@ -82,7 +81,7 @@ module _ (a : Account) (ok : Ranged a) (left : List ℕ) (w : ℕ) (lw : w < a .
       where
         skipped : (h : ℕ) → h < a .positions → Open a left w h → start a o w ≤ key a o h → u + 1 ≤ key a o h
         skipped h l e b =
-            let k = key-below a ok o w h lw l (e .may-pair) b in
+            let k = key-below a ok o w h lw l (e .may-pair) (e .unblocked) b in
             let r = key-row a ok o h l (omega (arith, top-most a ok o w lw)) in
             let other : u ≡ key a o h → ⊥ = λ q. shut (subst (Open a left w) (sym r ∙ ap (λ x. x % 256) (sym q)) e) in
             omega (arith, c .passed h l e b)
@@ -100,7 +99,7 @@ Falls a left left′ = (r : ℕ) → r < a .positions → nth left′ r ≤ nth 
 
 module _ (a : Account) (left left′ : List ℕ) (fall : Falls a left left′) (w : ℕ) where
   pub open-falls : (h : ℕ) → h < a .positions → Open a left′ w h → Open a left w h
-  open-falls h l e = record { may-pair = e .may-pair; held-left = omega (arith, e .held-left, fall h l) }
+  open-falls h l e = record { may-pair = e .may-pair; held-left = omega (arith, e .held-left, fall h l); unblocked = e .unblocked }
 
   cursor-falls : (o u : ℕ) → Cursor a left o w u → Cursor a left′ o w u
   cursor-falls o u c =
@@ -135,7 +134,7 @@ module _ (a : Account) (left left′ : List ℕ) (fall : Falls a left left′) (
 -- The next row of a line takes over its places.
 module _ (a : Account) (left : List ℕ) (v w : ℕ) (same : Alike a v w) where
   pub open-alike : (h : ℕ) → Open a left w h → Open a left v h
-  open-alike h e = record { may-pair = same .may h ∙ e .may-pair; held-left = e .held-left }
+  open-alike h e = record { may-pair = same .may h ∙ e .may-pair; held-left = e .held-left; unblocked = e .unblocked }
 
   cursor-alike : (o u : ℕ) → Cursor a left o v u → Cursor a left o w u
   cursor-alike o u c =

@@ -12,7 +12,7 @@ use Rattle.pairing.proofs.CursorLaws.{Falls, kept-falls, open-alike, op
 use Rattle.lanes.proofs.FileFacts.{Ranged}
 use Rattle.pairing.proofs.RankLaws.{gap-most, written-row}
 use Rattle.tree.proofs.TreeLaws.{least-all, least-some}
-use Rattle.pairing.specs.Cursors.{Open, Shut, Told}
+use Rattle.pairing.specs.Cursors.{Open, Shut, Told, Usable}
 use Rattle.pairing.specs.Standings.{After, AskedAt, Lines, Settled, Standings, Waits, leafOf}
 use Rattle.lanes.specs.Keys.{none}
 use Rattle.numbers.proofs.Order.{split}
@@ -78,19 +78,23 @@ module _ (a : Account) (ok : Ranged a) (left table tree places : List ℕ) (line
               let l = down v (omega (arith, g .later)) (x .row) (x .unspent) h lh (open-alike a left v w (g .alike) h o) in
               omega (arith, l, g .alike .gap h, g .later)
 
-  -- So it is at most that of each allowed pair.
-  allowed-lowest : (v g : ℕ) → v < a .positions → g < a .positions → allowed (bookOf a) (nth left) v g ≡ true
+  -- So it is at most that of each allowed pair, where no more contracts are left than may be paired.
+  allowed-lowest : Usable a left → (v g : ℕ) → v < a .positions → g < a .positions → allowed (bookOf a) (nth left) v g ≡ true
       → nth tree 1 ≤ rank (bookOf a) v g
-  allowed-lowest v g lv lg e =
+  allowed-lowest usable v g lv lg e =
       let k = allowed-is (bookOf a) (nth left) v g lv lg e in
       lowest (v + 1) v (omega arith) lv (λ q. omega (arith, f .leaves .spent v lv q, k .written-left)) g lg
-      (record { may-pair = k .may-pair; held-left = k .held-left })
+      (record {
+        may-pair = k .may-pair;
+        held-left = k .held-left;
+        unblocked = lt-ltb (a .positionAt g .blocked) (a .positionAt g .q) (omega (arith, usable g lg, k .held-left));
+      })
 
-  pub nothing : none ≤ nth tree 1 → choice (bookOf a) (nth left) ≡ NoPair
-  nothing s =
+  pub nothing : Usable a left → none ≤ nth tree 1 → choice (bookOf a) (nth left) ≡ NoPair
+  nothing usable s =
       none-choice (bookOf a) (nth left)
       (λ v g lv lg. refuted _
-      (λ e. omega (arith, allowed-lowest v g lv lg e, gap-most a ok left v lv g lg, ok .rows-most)))
+      (λ e. omega (arith, allowed-lowest usable v g lv lg e, gap-most a ok left v lv g lg, ok .rows-most)))
 
   module _ (some : nth tree 1 < none) where
     -- The leaf of the least rank's row has it.
@@ -110,9 +114,9 @@ module _ (a : Account) (ok : Ranged a) (left table tree places : List ℕ) (line
         let s : leafOf a tree w < none = omega (arith, l .1) in
         subst (λ x. Told a w (x % 256) (nth places (512 + w))) (l .1) (f .leaves .kept w (l .0) s .told s asked)
 
-    pub picked : Settled left places (nth tree 1)
+    pub picked : Usable a left → Settled left places (nth tree 1)
         → choice (bookOf a) (nth left) ≡ Pair (nth tree 1 / 256 % 256) (nth tree 1 % 256)
-    picked live =
+    picked usable live =
         let w = nth tree 1 / 256 % 256 in
         let h = nth tree 1 % 256 in
         let l = least-row in
@@ -124,4 +128,4 @@ module _ (a : Account) (ok : Ranged a) (left table tree places : List ℕ) (line
         choice-ranked (bookOf a) (nth left) (ok .rows-most) w h (l .0) lh
         (is-allowed (bookOf a) (nth left) w h
         (record { written-below = l .0; held-below = lh; may-pair = may; written-left = live .written-left; held-left = live .held-left }))
-        (λ v g lv lg o. omega (arith, allowed-lowest v g lv lg o))
+        (λ v g lv lg o. omega (arith, allowed-lowest usable v g lv lg o))

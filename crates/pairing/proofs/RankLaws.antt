@@ -68,12 +68,12 @@ module _ (a : Account) (ok : Ranged a) (left : List ℕ) (w : ℕ) (lw : w < a .
   module _ (u x : ℕ) (c : Cursor a left 256 w u) (is : x ≡ distance a 256 w u) where
     pub up-near : (h : ℕ) → h < a .positions → Open a left w h → a .positionAt w .terms .pe ≤ a .positionAt h .terms .pe → x ≤ gapOf a w h * 256 + h
     up-near h l o s =
-        let lane = may-meet a w h lw (o .may-pair) in
+        let lane = may-meet a w h lw (o .may-pair) (o .unblocked) in
         let k = key-is a ok 256 h (lane .held) in
         let series = lane .series in
         let family-is = lane .family-is in
         let q : start a 256 w ≤ key a 256 h = omega arith in
-        let b = key-below a ok 256 w h lw l (o .may-pair) q in
+        let b = key-below a ok 256 w h lw l (o .may-pair) (o .unblocked) q in
         let p = c .passed h l o q in
         omega (arith, distance-at 256 u x c is (omega arith), gap-up a w h s)
 
@@ -93,13 +93,13 @@ module _ (a : Account) (ok : Ranged a) (left : List ℕ) (w : ℕ) (lw : w < a .
   module _ (d y : ℕ) (c : Cursor a left 512 w d) (is : y ≡ distance a 512 w d) where
     pub down-near : (h : ℕ) → h < a .positions → Open a left w h → a .positionAt h .terms .pe < a .positionAt w .terms .pe → y ≤ gapOf a w h * 256 + h
     down-near h l o s =
-        let lane = may-meet a w h lw (o .may-pair) in
+        let lane = may-meet a w h lw (o .may-pair) (o .unblocked) in
         let k = key-is a ok 512 h (lane .held) in
         let series = lane .series in
         let family-is = lane .family-is in
         let most = place-most (a .positionAt w) (row-range a ok w lw) in
         let q : start a 512 w ≤ key a 512 h = omega arith in
-        let b = key-below a ok 512 w h lw l (o .may-pair) q in
+        let b = key-below a ok 512 w h lw l (o .may-pair) (o .unblocked) q in
         let p = c .passed h l o q in
         omega (arith, distance-at 512 d y c is (omega arith), gap-down a w h (omega arith))
 

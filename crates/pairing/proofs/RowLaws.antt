@@ -11,8 +11,7 @@ use lib.Seq.{getD-set-other, getD-set-same}
 use borrow.Author.Tests.{ltb-true}
 use Rattle.lanes.proofs.FileFacts.{ranged, row-range}
 use Rattle.lanes.proofs.MarkLaws.{mark-role}
-use Rattle.lanes.specs.Keys.{pairsAsHeld, pairsAsWritten}
-use Rattle.lanes.specs.Limiters.{limiterFits}
+use Rattle.lanes.specs.Keys.{fitsLanes, pairsAsHeld, pairsAsWritten}
 use Rattle.lanes.specs.Marks.{roleOf, sideRole}
 use Rattle.numbers.specs.Lists.{nth}
 use Rattle.pairing.proofs.CursorLaws.{cursor-starts}
@@ -53,15 +52,15 @@ role-other fits p = go (p .side) (mayBePaired p)
     go Written false n e = true≢false (sym e)
 
 module _ (b : List ℕ) (l : Layout) (left table : List ℕ) (w : ℕ) (row : Row b l left table w) where
-  role-is : nth table w % 256 ≡ roleOf (limiterFits (accountOf b l) w) (accountOf b l .positionAt w)
+  role-is : nth table w % 256 ≡ roleOf (fitsLanes (accountOf b l) w) (accountOf b l .positionAt w)
   role-is =
       rw (row .rests .filled .marks w (row .row))
-      (mark-role (limiterFits (accountOf b l) w) (accountOf b l .positionAt w) (row-range (accountOf b l) (ranged b l (row .rests .file)) w (row .row)))
+      (mark-role (fitsLanes (accountOf b l) w) (accountOf b l .positionAt w) (row-range (accountOf b l) (ranged b l (row .rests .file)) w (row .row)))
 
   -- Its first places: a written row is in no lane itself.
   pub first-places : nth table w % 256 ≡ 1 → Places (accountOf b l) left w (nth table (256 + w)) (nth table (512 + w))
   first-places e =
-      let r = role-written (limiterFits (accountOf b l) w) (accountOf b l .positionAt w) (sym role-is ∙ e) in
+      let r = role-written (fitsLanes (accountOf b l) w) (accountOf b l .positionAt w) (sym role-is ∙ e) in
       let ok = ranged b l (row .rests .file) in
       record {
         up = cursor-starts (accountOf b l) ok left w (row .row) 256 table (r .outside) (r .written) (row .rests .filled .up);
@@ -74,7 +73,7 @@ module _ (b : List ℕ) (l : Layout) (left table : List ℕ) (w : ℕ) (row : Ro
       nothing-kept (accountOf b l) left w
       (λ h lh o.
       let p = may-pairable (accountOf b l) w h (o .may-pair) in
-      role-other (limiterFits (accountOf b l) w) (accountOf b l .positionAt w) (λ q. e (role-is ∙ q)) (rw (p .is-written, p .written-may)))
+      role-other (fitsLanes (accountOf b l) w) (accountOf b l .positionAt w) (λ q. e (role-is ∙ q)) (rw (p .is-written, p .written-may)))
 
 pub both-some : (x y : ℕ) → (ltb 0 x && ltb 0 y) ≡ true → (1 ≤ x) × (1 ≤ y)
 both-some x y e = let t = both (ltb 0 x) (ltb 0 y) e in (ltb-true 0 x (t .0), ltb-true 0 y (t .1))

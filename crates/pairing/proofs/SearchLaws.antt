@@ -10,8 +10,7 @@ use borrow.Author.Tests.{le-ltb, lt-ltb}
 use Rattle.lanes.proofs.FileFacts.{Ranged, ranged, row-range}
 use Rattle.lanes.proofs.KeyLaws.{top-most}
 use Rattle.lanes.proofs.MarkLaws.{mark-from, mark-most, mark-top}
-use Rattle.lanes.specs.Keys.{from, none, pairsAsWritten, top}
-use Rattle.lanes.specs.Limiters.{limiterFits}
+use Rattle.lanes.specs.Keys.{fitsLanes, from, none, pairsAsWritten, top}
 use Rattle.lanes.specs.Marks.{markFrom, markOf, markTop}
 use Rattle.numbers.proofs.Order.{split}
 use Rattle.numbers.specs.Lists.{nth}
@@ -106,26 +105,26 @@ module _ (o x u t f : ℕ) (et : t ≡ markTop o x) where
 
 -- Top, start and distance from the mark of row w.
 module _ (b : List ℕ) (l : Layout) (left table : List ℕ) (w : ℕ) (row : Row b l left table w) (o : ℕ) where
-  mark : nth table w ≡ markOf (limiterFits (accountOf b l) w) (accountOf b l .positionAt w)
+  mark : nth table w ≡ markOf (fitsLanes (accountOf b l) w) (accountOf b l .positionAt w)
   mark = row .rests .filled .marks w (row .row)
 
   pub top-marked : markTop o (nth table w) ≡ top (accountOf b l) o w
   top-marked =
-      rw mark (mark-top (limiterFits (accountOf b l) w) (accountOf b l .positionAt w) (row-range (accountOf b l) (ranged b l (row .rests .file)) w (row .row)) o)
+      rw mark (mark-top (fitsLanes (accountOf b l) w) (accountOf b l .positionAt w) (row-range (accountOf b l) (ranged b l (row .rests .file)) w (row .row)) o)
 
   pub distance-asked : (u : ℕ) → Cursor (accountOf b l) left o w u → DistanceAsked o (nth table w) u
   distance-asked u c =
       let r = row-range (accountOf b l) (ranged b l (row .rests .file)) w (row .row) in
-      let e : markFrom o (nth table w) ≡ from (accountOf b l) o w = rw mark (mark-from (limiterFits (accountOf b l) w) (accountOf b l .positionAt w) r o) in
+      let e : markFrom o (nth table w) ≡ from (accountOf b l) o w = rw mark (mark-from (fitsLanes (accountOf b l) w) (accountOf b l .positionAt w) r o) in
       record {
-        mark-most = rw mark (mark-most (limiterFits (accountOf b l) w) (accountOf b l .positionAt w) r);
+        mark-most = rw mark (mark-most (fitsLanes (accountOf b l) w) (accountOf b l .positionAt w) r);
         reached = λ q. let z = c .after (omega (arith, top-marked)) in omega (arith, e);
       }
 
   pub distance-marked : (u x : ℕ) → x ≡ distanceTo u (markFrom o (nth table w)) (markTop o (nth table w)) → x ≡ distance (accountOf b l) o w u
   distance-marked u x e =
       let r = row-range (accountOf b l) (ranged b l (row .rests .file)) w (row .row) in
-      let fits = limiterFits (accountOf b l) w in
+      let fits = fitsLanes (accountOf b l) w in
       e ∙ rw (mark, mark-from fits (accountOf b l .positionAt w) r o, mark-top fits (accountOf b l .positionAt w) r o) refl
 
 -- Row w as the code read it, once a search.

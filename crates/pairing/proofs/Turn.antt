@@ -13,11 +13,12 @@ use Rattle.lanes.specs.Marks.{Units}
 use Rattle.numbers.specs.Lists.{nth}
 use Rattle.pairing.proofs.FileFacts.{row-within}
 use Rattle.pairing.proofs.LeastLaws.{least-told, nothing, picked, standings-fall}
+use Rattle.pairing.specs.Cursors.{Usable}
 use Rattle.pairing.specs.Standings.{BestRank, Lines, Standings}
 use Rattle.pairing.specs.Pairing.{PairAsked, PairWritten, PairedBy, PairedUp, RoundsMade, pairOf}
 use Rattle.pairing.specs.declared.Tally.{Tally}
 use Rattle.lines.proofs.LinesHeld.{lines-more, lines-same}
-use Rattle.lines.specs.LineNumbers.{linesFrom, mostNumbers}
+use Rattle.lines.specs.LineNumbers.{linesFrom, mostPairNumbers}
 use Rattle.rules.proofs.Counts.{bound, open-most, room, taken-most}
 use Rattle.rules.proofs.InstalmentLaws.{after-same, first-count, left-same}
 use Rattle.rules.proofs.LineLaws.{pairLines-append}
@@ -160,19 +161,22 @@ module _ (b : List ℕ) (l : Layout) (known : Known b l) (left numbers table tre
   ok : Known b l
   ok = known
 
+  usable : Usable (accountOf b l) left
+  usable r lr = omega (arith, f .left-is r lr, left-falls (bookOf (accountOf b l)) (available (accountOf b l)) k r)
+
   pub round-stops : none ≤ m → (n : ℕ) → k ≤ n → RoundsMade n (accountOf b l) left numbers table tree places (tally k total)
   round-stops s n few =
-      record { paired = stopped (accountOf b l) k total left numbers f (nothing (accountOf b l) (ranged b l ok) left table tree places lines (best .standings) (rw (best .least) at s)) n few; one-each = f; standings = best .standings }
+      record { paired = stopped (accountOf b l) k total left numbers f (nothing (accountOf b l) (ranged b l ok) left table tree places lines (best .standings) usable (rw (best .least) at s)) n few; one-each = f; standings = best .standings }
 
   module _ (s : m < none) where
     picks : choice (bookOf (accountOf b l)) (nth left) ≡ Pair (m / 256 % 256) (m % 256)
     picks =
         rw (best .least)
-        (picked (accountOf b l) (ranged b l ok) left table tree places lines (best .standings) (rw (best .least) at s) (rw (best .least) at (best .settled s)))
+        (picked (accountOf b l) (ranged b l ok) left table tree places lines (best .standings) (rw (best .least) at s) usable (rw (best .least) at (best .settled s)))
 
     most : (r : ℕ) → r < l .positions → nth left r ≤ 100_000
     most r lr =
-        omega (arith, f .left-is r lr, left-falls (bookOf (accountOf b l)) (available (accountOf b l)) k r, row-within b l ok r lr .q-most)
+        omega (arith, usable r lr, row-within b l ok r lr .q-most)
 
     pub round-room : k + 2 ≤ l .positions
     round-room = rounds-left (accountOf b l) k total left numbers f (m / 256 % 256) (m % 256) picks
@@ -180,7 +184,7 @@ module _ (b : List ℕ) (l : Layout) (known : Known b l) (left numbers table tre
     pub round-few : l .positions ≤ 256
     round-few = ok .placed .positions-most
 
-    pub round-asks : 256 ≤ length left → mostNumbers ≤ length numbers → PairAsked b l left numbers k (m / 256 % 256) (m % 256) (nth places (512 + m / 256 % 256))
+    pub round-asks : 256 ≤ length left → mostPairNumbers ≤ length numbers → PairAsked b l left numbers k (m / 256 % 256) (m % 256) (nth places (512 + m / 256 % 256))
     round-asks long wide =
         let at = choice-allowed (bookOf (accountOf b l)) (nth left) picks in
         record {

@@ -7,7 +7,7 @@ use mathlib.Core.Path.{_≡_}
 use lib.Dec.{eqb, ltb}
 use lib.ListN.{length}
 use Rattle.account.specs.Known.{Known}
-use Rattle.lanes.specs.Keys.{Links, downLane, from, key, last, none, pairsAsWritten, start, top, upLane}
+use Rattle.lanes.specs.Keys.{Links, downLane, from, key, last, none, pairsAsWritten, someUnblocked, start, top, upLane}
 use Rattle.lanes.specs.Marks.{Table, markFrom, markTop}
 use Rattle.numbers.specs.Lists.{nth}
 use Rattle.pairing.specs.declared.Standing.{Standing}
@@ -17,7 +17,7 @@ use Rattle.rules.specs.File.{Account, accountOf, seriesOfRow}
 use Rattle.rules.specs.Limits.{mostPositions}
 use Rattle.rules.specs.Lines.{spreadUnit}
 use Rattle.rules.specs.OnePosition.{normal, unitMargin}
-use Rattle.rules.specs.Pairs.{bookOf, isHeld, isWritten, mayBePaired, mayOf}
+use Rattle.rules.specs.Pairs.{available, bookOf, isHeld, isWritten, mayBePaired, mayOf}
 use Rattle.rules.specs.Spreads.{unitSpread}
 use Rattle.rules.specs.declared.Layout.{Layout}
 use Rattle.rules.specs.declared.Position.{Position}
@@ -65,11 +65,16 @@ pub record Answered (a : Account) (w h unit charge : ℕ) : Type 0 where
   pub yes : charge < unit → (mayOf a w h ≡ true) × (charge ≡ spreadAt a w h)
   pub no : unit ≤ charge → mayOf a w h ≡ true → ⊥
 
--- Rows w and h may pair, and h has contracts left: the written row's own contracts do not count here, since the next row
--- of its line may take its place.
+-- Rows w and h may pair, and h has contracts left, which are not blocked: the written row's own contracts do not count here,
+-- since the next row of its line may take its place.
 pub record Open (a : Account) (left : List ℕ) (w h : ℕ) : Type 0 where
   pub may-pair : mayOf a w h ≡ true
   pub held-left : 1 ≤ nth left h
+  pub unblocked : someUnblocked a h ≡ true
+
+-- No row has more contracts left than may be paired.
+abbrev pub Usable : Account → List ℕ → Type 0
+Usable a left = (r : ℕ) → r < a .positions → nth left r ≤ available a r
 
 abbrev pub Shut : Account → List ℕ → ℕ → Type 0
 Shut a left w = (h : ℕ) → h < a .positions → Open a left w h → ⊥

@@ -12,7 +12,7 @@ use Rattle.pairing.specs.Cursors.{spreadAt}
 use Rattle.pairing.specs.Standings.{RowsAsked, Standings, TableNew}
 use Rattle.pairing.specs.declared.Instalment.{Instalment}
 use Rattle.pairing.specs.declared.Tally.{Tally}
-use Rattle.lines.specs.LineNumbers.{lineFrom, linesFrom, mostNumbers, numbersPerLine}
+use Rattle.lines.specs.LineNumbers.{lineFrom, linesFrom, mostPairNumbers, numbersPerLine}
 use Rattle.rules.specs.File.{Account, accountOf}
 use Rattle.rules.specs.Limits.{mostPositions}
 use Rattle.rules.specs.Lines.{pairLine, pairLines, spreadAmount, sumOver}
@@ -47,12 +47,12 @@ pub record PairWritten (a : Account) (k w h : ℕ) (left₀ numbers₀ left numb
   pub left-length : length left ≡ length left₀
   pub numbers-length : length numbers ≡ length numbers₀
 
--- What the pairing asks: an accepted file, room for all rows and lines, a table in which no row stands in line, and the
--- contracts of each row.
+-- What the pairing asks: an accepted file, room for all rows and the lines of all pairs, a table in which no row stands in
+-- line, and of each row the contracts that may be paired.
 pub record PairingAsked (b : List ℕ) (l : Layout) (table left numbers : List ℕ) : Type 0 where
   pub table-new : TableNew b l table
   pub lefts : mostPositions ≤ length left
-  pub room : mostNumbers ≤ length numbers
+  pub room : mostPairNumbers ≤ length numbers
   pub contracts : (r : ℕ) → r < l .positions → nth left r ≡ available (accountOf b l) r
 
 -- After n rounds, of which t .count made a pair.
@@ -66,7 +66,7 @@ pub record PairedBy (n : ℕ) (a : Account) (left numbers : List ℕ) (t : Tally
 -- What the rounds ask: the rows stand, room for the lines, and the pairs that there are, one of each round.
 pub record RoundsAsked (b : List ℕ) (l : Layout) (left numbers table tree places : List ℕ) (before : Tally) : Type 0 where
   pub rows : RowsAsked b l left table tree places
-  pub room : mostNumbers ≤ length numbers
+  pub room : mostPairNumbers ≤ length numbers
   pub paired : PairedBy (before .count) (accountOf b l) left numbers before
 
 -- After n rounds. As many rounds as there are pairs give the same, and the rows still stand, so that further rounds go on from

@@ -1,5 +1,5 @@
 -- Document 01, Paths, demand 3: the cover of an account, after any number of rounds of pairing, from the cover of each
--- written row by its unit margin and of each pair by its spread.
+-- written row by its unit margin and of each pair by its spread. Its blocked contracts are within their limits.
 -- Assumes nothing.
 use Prim.Native.Nat.{ℕ, _+_, _*_, _≤_, _<_}
 use mathlib.Core.Bool.{true}
@@ -7,13 +7,14 @@ use mathlib.Core.List.{List}
 use mathlib.Core.Path.{_≡_, refl, sym, ap}
 use native.Mathlib.Nat.{mul-le-mul-right}
 use native.Mathlib.Omega.{arith}
-use Rattle.rules.proofs.LineLaws.{amounts, brought, lines-are, total-is}
+use Rattle.rules.proofs.BlockedRows.{BlockedFits, all-available, amounts-after}
+use Rattle.rules.proofs.LineLaws.{brought, lines-are, total-is}
 use Rattle.rules.proofs.MayPair.{apart, may-pairable}
 use Rattle.rules.proofs.Sums.{each-map, sumOver-add, sumOver-most, sumOver-scale, sumTo-most, sumTo-same, sumTo-scale}
 use Rattle.rules.proofs.Weights.{Sound, made-sound, weighed}
 use Rattle.rules.proofs.WholeReais.{rounded-to-reais}
 use Rattle.rules.specs.File.{Account, seriesOfRow}
-use Rattle.rules.specs.Lines.{leftAmount, leftAmountAt, linesAfter, spreadAmount, spreadUnit, sumOver, sumTo, totalAfter}
+use Rattle.rules.specs.Lines.{leftAmount, leftAmountAt, leftWithBlocked, linesAfter, spreadAmount, spreadUnit, sumOver, sumTo, totalAfter}
 use Rattle.rules.specs.OnePosition.{amountOf, unitMargin}
 use Rattle.rules.specs.Pairs.{Made, available, bookOf, contractsAfter, mayOf, pairsAfter}
 use Rattle.rules.specs.Promises.{Cover, OnePathEach, lineBringsIn, rowPayment, rowPaysOut, writtenPayOut}
@@ -45,9 +46,10 @@ abbrev paysEach : Side → ℕ → ℕ → ℕ
 paysEach Held pays m = 0
 paysEach Written pays m = pays * m
 
-pays-each : (x : Side) (pays m q : ℕ) → rowPaysOut x pays m q ≡ paysEach x pays m * q
-pays-each Held pays m q = omega arith
-pays-each Written pays m q = refl
+-- A written row pays out all its contracts, n, and a held one nothing.
+pays-each : (x : Side) (pays m q n : ℕ) → (x ≡ Written → n ≡ q) → rowPaysOut x pays m q ≡ paysEach x pays m * n
+pays-each Held pays m q n e = omega arith
+pays-each Written pays m q n e = ap (λ (k : ℕ). pays * m * k) (sym (e refl))
 
 -- A row's left line covers what is left of it.
 row-covered : (x : Side) (s : Series) (p : Position) (pays q : ℕ)
@@ -75,7 +77,7 @@ module _ (a : Account) (n : ℕ) (path : ℕ → List ℕ) (each : OnePathEach a
   pairs-covered c =
       omega (
         arith,
-        brought a (pairsAfter a n) (contractsAfter a n) (a .positions) path,
+        brought a (pairsAfter a n) (leftWithBlocked a n) (a .positions) path,
         sumOver-most pays covers (pairsAfter a n) (each-map pair (pairsAfter a n) (made-sound (bookOf a) (available a) n)),
         sumOver-add (λ m. 1_000_000 * spreadAmount a m) brings (pairsAfter a n),
         sumOver-scale 1_000_000 (spreadAmount a) (pairsAfter a n),
@@ -115,14 +117,14 @@ module _ (a : Account) (n : ℕ) (path : ℕ → List ℕ) (each : OnePathEach a
       amount : ℕ → ℕ
       amount r = leftAmountAt a r (contractsAfter a n r)
 
-  pub covered-after : RowsCovered a → PairsCovered a
+  pub covered-after : BlockedFits a → RowsCovered a → PairsCovered a
       → writtenPayOut a path ≤ totalAfter a n * 1_000_000 + sumOver (lineBringsIn a path) (linesAfter a n)
-  covered-after rows pairs =
+  covered-after fits rows pairs =
       omega
-      (arith, pays-out, weighed (bookOf a) (apart a) (available a) payEach n, amounts a (pairsAfter a n) (contractsAfter a n) (a .positions), rows-covered rows, pairs-covered pairs)
+      (arith, pays-out, weighed (bookOf a) (apart a) (available a) payEach n, amounts-after a fits n, rows-covered rows, pairs-covered pairs)
     where
       pays-out : writtenPayOut a path ≡ sumTo (λ r. payEach r * available a r) (a .positions)
-      pays-out = sumTo-same _ _ (a .positions) (λ r l. pays-each (a .positionAt r .side) _ _ _)
+      pays-out = sumTo-same _ _ (a .positions) (λ r l. pays-each (a .positionAt r .side) _ _ _ _ (all-available a fits r l))
 
-pub cover : (a : Account) → RowsCovered a → PairsCovered a → Cover a
-cover a rows pairs path each = rw (total-is a, lines-are a) (covered-after a (a .positions) path each rows pairs)
+pub cover : (a : Account) → BlockedFits a → RowsCovered a → PairsCovered a → Cover a
+cover a fits rows pairs path each = rw (total-is a, lines-are a) (covered-after a (a .positions) path each fits rows pairs)

@@ -2,7 +2,7 @@
 -- that it answers `marginAnswer`, `listAfter`, `signedAnswer (amountAnswer ..)` and `premiumAnswer`; these laws say what those are. The same
 -- of the numbers that a C program is given is in crate serpentgleam, proofs/AnswerNumbers.antt.
 -- Assumes nothing.
-use Prim.Native.Nat.{ℕ, _≤_, _<_}
+use Prim.Native.Nat.{ℕ, _*_, _-_, _≤_, _<_}
 use mathlib.Core.Bool.{Bool, true, false, cond}
 use mathlib.Core.List.{List, _++_}
 use mathlib.Core.Logic.{_⊎_, inl, inr}
@@ -18,7 +18,7 @@ use Rattle.rules.proofs.LineLaws.{line-count, lines-are}
 use Rattle.rules.proofs.Reading.{accepted-within, within-accepted, within-read}
 use Rattle.rules.specs.File.{Account, accountOf, layout, positionCount}
 use Rattle.rules.specs.Limits.{FileWithin}
-use Rattle.rules.specs.Lines.{lines, linesFor, linesGiven, listAfter, marginAnswer, marginForList, mostLines, premiumAnswer, premiums, premiumsOf, total}
+use Rattle.rules.specs.Lines.{entriesFor, lines, linesFor, linesGiven, listAfter, marginAnswer, marginForList, mostLines, premiumAnswer, premiums, premiumsOf, total}
 use Rattle.rules.specs.OnePosition.{amountAnswer, amountForRow, positionAmount, signedAnswer}
 use Rattle.rules.specs.Refusals.{accepted, fileRead, meaning, meant, number, refused}
 use Rattle.rules.specs.declared.AmountAnswer.the-variants.{Amount, NoAmount}
@@ -79,34 +79,34 @@ module _ (b : List ℕ) where
           let r : i ≡ row = cc in
           (w, p, q ∙ ap (Refused w) r)
 
-  -- An accepted file and a list of at least p entries: the line count and the total.
-  pub margin-accepted : (a : Account) → meaning b ≡ accepted a → (n : ℕ) → a .positions ≤ n → marginAnswer b n ≡ Total (length (lines a)) (total a)
+  -- An accepted file and a list of at least 2 × p entries: the line count and the total.
+  pub margin-accepted : (a : Account) → meaning b ≡ accepted a → (n : ℕ) → entriesFor (a .positions) ≤ n → marginAnswer b n ≡ Total (length (lines a)) (total a)
   margin-accepted a e n =
       let k = accepted-read a e in
-      subst (λ (x : Account). x .positions ≤ n → marginAnswer b n ≡ Total (length (lines x)) (total x)) (sym (k .1))
-      (λ h. rw (answer-read n (Accepted (layout b)) (k .0), le-ltb n (layout b .positions) h))
+      subst (λ (x : Account). entriesFor (x .positions) ≤ n → marginAnswer b n ≡ Total (length (lines x)) (total x)) (sym (k .1))
+      (λ h. rw (answer-read n (Accepted (layout b)) (k .0), le-ltb n (entriesFor (layout b .positions)) h))
 
   -- A list of as many entries as an account has lines at most is never too short.
   pub margin-most : (a : Account) → meaning b ≡ accepted a → marginAnswer b mostLines ≡ Total (length (lines a)) (total a)
   unfolding layout
   margin-most a e =
       let k = accepted-within b a e in
-      let few : positionCount b ≤ mostLines = omega (arith, k .0 .trailer .positions-most) in
-      margin-accepted a e mostLines (subst (λ (x : Account). x .positions ≤ mostLines) (sym (k .1)) few)
+      let few : entriesFor (positionCount b) ≤ mostLines = omega (arith, k .0 .trailer .positions-most) in
+      margin-accepted a e mostLines (subst (λ (x : Account). entriesFor (x .positions) ≤ mostLines) (sym (k .1)) few)
 
   -- Demand 1 of the operation: "A file that keeps the limits of document 01 is accepted and gets its lines and total,
-  -- whatever its rows hold", in a list of at least p entries.
-  pub margin-within : FileWithin b → (n : ℕ) → positionCount b ≤ n
+  -- whatever its rows hold", in a list of at least 2 × p entries.
+  pub margin-within : FileWithin b → (n : ℕ) → entriesFor (positionCount b) ≤ n
       → marginAnswer b n ≡ Total (length (lines (accountOf b (layout b)))) (total (accountOf b (layout b)))
   unfolding layout
   margin-within h n = margin-accepted (accountOf b (layout b)) (within-accepted b h) n
 
   -- An accepted file and a shorter list: refusal 12, row 0.
-  pub margin-short : (a : Account) → meaning b ≡ accepted a → (n : ℕ) → n < a .positions → marginAnswer b n ≡ NoTotal ListTooShort 0
+  pub margin-short : (a : Account) → meaning b ≡ accepted a → (n : ℕ) → n < entriesFor (a .positions) → marginAnswer b n ≡ NoTotal ListTooShort 0
   margin-short a e n =
       let k = accepted-read a e in
-      subst (λ (x : Account). n < x .positions → marginAnswer b n ≡ NoTotal ListTooShort 0) (sym (k .1))
-      (λ h. rw (answer-read n (Accepted (layout b)) (k .0), lt-ltb n (layout b .positions) h))
+      subst (λ (x : Account). n < entriesFor (x .positions) → marginAnswer b n ≡ NoTotal ListTooShort 0) (sym (k .1))
+      (λ h. rw (answer-read n (Accepted (layout b)) (k .0), lt-ltb n (entriesFor (layout b .positions)) h))
 
   -- A refused file: its number and row, whatever the list.
   pub margin-refused : (k row : ℕ) → meaning b ≡ refused k row → (n : ℕ) → (w : Refusal) × (number w ≡ k) × (marginAnswer b n ≡ NoTotal w row)
@@ -116,33 +116,33 @@ module _ (b : List ℕ) where
 
   -- The other way round: a refusal is the reading's, or the list was too short, with number 12 and row 0.
   pub refusal-is : (n : ℕ) (w : Refusal) (row : ℕ) → marginAnswer b n ≡ NoTotal w row
-      → (meaning b ≡ refused (number w) row) ⊎ ((a : Account) × (meaning b ≡ accepted a) × (n < a .positions) × (number w ≡ 12) × (row ≡ 0))
+      → (meaning b ≡ refused (number w) row) ⊎ ((a : Account) × (meaning b ≡ accepted a) × (n < entriesFor (a .positions)) × (number w ≡ 12) × (row ≡ 0))
   unfolding marginAnswer meaning
   refusal-is n w row e = go (fileRead b) refl
     where
       go : (x : FileRead) → fileRead b ≡ x
-          → (meaning b ≡ refused (number w) row) ⊎ ((a : Account) × (meaning b ≡ accepted a) × (n < a .positions) × (number w ≡ 12) × (row ≡ 0))
+          → (meaning b ≡ refused (number w) row) ⊎ ((a : Account) × (meaning b ≡ accepted a) × (n < entriesFor (a .positions)) × (number w ≡ 12) × (row ≡ 0))
       go (Refused v i) q =
           let m = sym (answer-read n (Refused v i) q) ∙ e in
           let p : v ≡ w = cc in
           let r : i ≡ row = cc in
           inl (ap (meant b) q ∙ ap (λ (x : Refusal). refused (number x) i) p ∙ ap (refused (number w)) r)
-      go (Accepted l) q = by-room (ltb n (l .positions)) refl (sym (answer-read n (Accepted l) q) ∙ e)
+      go (Accepted l) q = by-room (ltb n (entriesFor (l .positions))) refl (sym (answer-read n (Accepted l) q) ∙ e)
         where
-          by-room : (t : Bool) → ltb n (l .positions) ≡ t
+          by-room : (t : Bool) → ltb n (entriesFor (l .positions)) ≡ t
               → cond t (NoTotal ListTooShort 0) (Total (length (lines (accountOf b l))) (total (accountOf b l))) ≡ NoTotal w row
-              → (meaning b ≡ refused (number w) row) ⊎ ((a : Account) × (meaning b ≡ accepted a) × (n < a .positions) × (number w ≡ 12) × (row ≡ 0))
+              → (meaning b ≡ refused (number w) row) ⊎ ((a : Account) × (meaning b ≡ accepted a) × (n < entriesFor (a .positions)) × (number w ≡ 12) × (row ≡ 0))
           by-room true t m =
               let p : ListTooShort ≡ w = cc in
               let r : 0 ≡ row = cc in
-              inr (accountOf b l, ap (meant b) q, ltb-true n (l .positions) t, ap number (sym p), sym r)
+              inr (accountOf b l, ap (meant b) q, ltb-true n (entriesFor (l .positions)) t, ap number (sym p), sym r)
           by-room false t m = let z : _≡_ {A = ℕ} 0 1 = cc in absurd (omega arith)
 
   -- So the number that a margin is refused with is 12 at most, whatever numbers other calls give.
   pub margin-number : (n : ℕ) (w : Refusal) (row : ℕ) → marginAnswer b n ≡ NoTotal w row → number w ≤ 12
   margin-number n w row e = go (refusal-is n w row e)
     where
-      go : (meaning b ≡ refused (number w) row) ⊎ ((a : Account) × (meaning b ≡ accepted a) × (n < a .positions) × (number w ≡ 12) × (row ≡ 0)) → number w ≤ 12
+      go : (meaning b ≡ refused (number w) row) ⊎ ((a : Account) × (meaning b ≡ accepted a) × (n < entriesFor (a .positions)) × (number w ≡ 12) × (row ≡ 0)) → number w ≤ 12
       go (inl f) = omega (arith, file-number b (number w) row f)
       go (inr (a, f, l, q, z)) = omega arith
 
@@ -152,24 +152,24 @@ module _ (b : List ℕ) where
   refusal-keeps out w row e = rw e
 
   -- An answer with lines: the account is accepted, the list afterwards is its lines and then the old entries from the
-  -- count on, the count is at most p, and the list is as long as it was.
+  -- count on, the count is at most 2 × p - 1 (0 where p is 0), and the list is as long as it was.
   pub record LinesAnswered (out : List Line) (count sum : ℕ) : Type 0 where
     pub account : Account
     pub is-accepted : meaning b ≡ accepted account
     pub count-is : count ≡ length (lines account)
     pub sum-is : sum ≡ total account
     pub list-is : listAfter b out ≡ lines account ++ drop count out
-    pub count-most : count ≤ account .positions
+    pub count-most : count ≤ 2 * account .positions - 1
     pub length-is : length (listAfter b out) ≡ length out
 
-  -- Where the operation answers lines, the list has at least p entries.
-  pub room-enough : (a : Account) → meaning b ≡ accepted a → (n count sum : ℕ) → marginAnswer b n ≡ Total count sum → a .positions ≤ n
-  room-enough a e n count sum h = by-room (ltb n (a .positions)) refl
+  -- Where the operation answers lines, the list has at least 2 × p entries.
+  pub room-enough : (a : Account) → meaning b ≡ accepted a → (n count sum : ℕ) → marginAnswer b n ≡ Total count sum → entriesFor (a .positions) ≤ n
+  room-enough a e n count sum h = by-room (ltb n (entriesFor (a .positions))) refl
     where
-      by-room : (t : Bool) → ltb n (a .positions) ≡ t → a .positions ≤ n
-      by-room false t = ltb-false n (a .positions) t
+      by-room : (t : Bool) → ltb n (entriesFor (a .positions)) ≡ t → entriesFor (a .positions) ≤ n
+      by-room false t = ltb-false n (entriesFor (a .positions)) t
       by-room true t =
-          let m = sym (margin-short a e n (ltb-true n (a .positions) t)) ∙ h in
+          let m = sym (margin-short a e n (ltb-true n (entriesFor (a .positions)) t)) ∙ h in
           let z : _≡_ {A = ℕ} 0 1 = cc in
           absurd (omega arith)
 

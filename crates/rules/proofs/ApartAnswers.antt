@@ -14,6 +14,7 @@ use Rattle.rules.proofs.InstalmentAnswers.{FirstPairs, RefusedFor, empt
 use Rattle.rules.proofs.InstalmentLaws.{pair-read}
 use Rattle.rules.proofs.Tests.{lt-or-ge}
 use Rattle.rules.specs.File.{Account, accountOf}
+use Rattle.rules.specs.Lines.{entriesFor}
 use Rattle.rules.specs.Instalments.{instalmentFault, madeOf, pairAnswer, pairedUnless}
 use Rattle.rules.specs.Refusals.{accepted, fileRead, meaning, number, refused}
 use Rattle.rules.specs.TakingApart.{apartAnswer, apartFault, apartUnless}
@@ -89,21 +90,21 @@ module _ (b : List ℕ) (out : List Line) (count allowance : ℕ) where
 module _ (b : List ℕ) (a : Account) (e : meaning b ≡ accepted a) (out : List Line) (count : ℕ) where
   -- A list of at least p entries in which the first pairs stand, and no more to be taken apart than there are: "The count
   -- falls by k", and it is the answer.
-  pub apart-goes : a .positions ≤ length out → FirstPairs a out count → (k : ℕ) → k ≤ count
+  pub apart-goes : entriesFor (a .positions) ≤ length out → FirstPairs a out count → (k : ℕ) → k ≤ count
       → apartAnswer b out count k ≡ TakenApart (count - k)
   apart-goes long f = paired-apart b out count 0 (madeOf a count 0) (pair-goes b a e out count long f 0)
 
   -- More than there are: 19, row 0.
-  pub apart-19 : a .positions ≤ length out → FirstPairs a out count → (k : ℕ) → count < k
+  pub apart-19 : entriesFor (a .positions) ≤ length out → FirstPairs a out count → (k : ℕ) → count < k
       → apartAnswer b out count k ≡ NotTakenApart AboveCount 0
   apart-19 long f = paired-19 b out count 0 (madeOf a count 0) (pair-goes b a e out count long f 0)
 
   -- A shorter list: 12, row 0, whatever it holds and whatever k.
-  pub apart-short : length out < a .positions → (k : ℕ) → apartAnswer b out count k ≡ NotTakenApart ListTooShort 0
+  pub apart-short : length out < entriesFor (a .positions) → (k : ℕ) → apartAnswer b out count k ≡ NotTakenApart ListTooShort 0
   apart-short short = refused-like-pairs b out count 0 ListTooShort 0 (pair-short b a e out count short 0)
 
   -- A list of at least p entries in which other lines stand: 18, row 0, whatever k.
-  pub apart-18 : a .positions ≤ length out → (FirstPairs a out count → ⊥) → (k : ℕ)
+  pub apart-18 : entriesFor (a .positions) ≤ length out → (FirstPairs a out count → ⊥) → (k : ℕ)
       → apartAnswer b out count k ≡ NotTakenApart NotFirstPairs 0
   apart-18 long wrong = refused-like-pairs b out count 0 NotFirstPairs 0 (pair-18 b a e out count long wrong 0)
 
@@ -113,7 +114,7 @@ abbrev pub ApartRefusedFor : List ℕ → List Line → ℕ → ℕ → Refusal 
 ApartRefusedFor b out count k w row =
     RefusedFor b out count w row
     ⊎ ((a : Account) × (meaning b ≡ accepted a) × (row ≡ 0)
-    × (a .positions ≤ length out) × FirstPairs a out count × (count < k) × (number w ≡ 19))
+    × (entriesFor (a .positions) ≤ length out) × FirstPairs a out count × (count < k) × (number w ≡ 19))
 
 module _ (b : List ℕ) (out : List Line) (count k : ℕ) where
   -- A refused file: its number and row, whatever the list, the count and k.
@@ -149,7 +150,7 @@ module _ (b : List ℕ) (out : List Line) (count k : ℕ) where
 
   -- the list has at least p entries, the first pairs stand in it, there are at least k, and the new count is lower by k.
   pub apart-only : (a : Account) → meaning b ≡ accepted a → (left : ℕ) → apartAnswer b out count k ≡ TakenApart left
-      → (a .positions ≤ length out) × FirstPairs a out count × (k ≤ count) × (left ≡ count - k)
+      → (entriesFor (a .positions) ≤ length out) × FirstPairs a out count × (k ≤ count) × (left ≡ count - k)
   apart-only a e left q =
       let told = apart-told left q 0 in
       let known = pair-only b a e out count 0 (told .0) (told .1) in

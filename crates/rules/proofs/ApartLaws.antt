@@ -9,6 +9,7 @@ use borrow.Author.Tests.{le-ltb, lt-ltb}
 use lib.Dec.{ltb}
 use lib.ListN.{length}
 use Rattle.rules.specs.File.{Account}
+use Rattle.rules.specs.Lines.{entriesFor}
 use Rattle.rules.specs.Instalments.{instalmentFault, notFirstPairs}
 use Rattle.rules.specs.Refusals.{fileRead, refuse}
 use Rattle.rules.specs.TakingApart.{apartAnswer, apartFault, apartForFile}
@@ -42,16 +43,16 @@ module _ (v w : Refusal) where
 module _ (a : Account) (out : List Line) (count k : ℕ) where
   pub fault-alike : (w : Refusal) → instalmentFault a out count ≡ Found w → apartFault a out count k ≡ Found w
   unfolding apartFault instalmentFault
-  fault-alike w e = two-fail ListTooShort NotFirstPairs (ltb (length out) (a .positions)) (notFirstPairs a out count) w _ e
+  fault-alike w e = two-fail ListTooShort NotFirstPairs (ltb (length out) (entriesFor (a .positions))) (notFirstPairs a out count) w _ e
 
   pub fault-19 : instalmentFault a out count ≡ Clean → count < k → apartFault a out count k ≡ Found AboveCount
   unfolding apartFault instalmentFault refuse
   fault-19 e h =
-      two-pass ListTooShort NotFirstPairs (ltb (length out) (a .positions)) (notFirstPairs a out count) (refuse (ltb count k) AboveCount Clean) e
+      two-pass ListTooShort NotFirstPairs (ltb (length out) (entriesFor (a .positions))) (notFirstPairs a out count) (refuse (ltb count k) AboveCount Clean) e
       ∙ rw (lt-ltb count k h)
 
   pub fault-no-19 : instalmentFault a out count ≡ Clean → k ≤ count → apartFault a out count k ≡ Clean
   unfolding apartFault instalmentFault refuse
   fault-no-19 e h =
-      two-pass ListTooShort NotFirstPairs (ltb (length out) (a .positions)) (notFirstPairs a out count) (refuse (ltb count k) AboveCount Clean) e
+      two-pass ListTooShort NotFirstPairs (ltb (length out) (entriesFor (a .positions))) (notFirstPairs a out count) (refuse (ltb count k) AboveCount Clean) e
       ∙ rw (le-ltb count k h)

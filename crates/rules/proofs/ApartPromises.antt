@@ -16,8 +16,7 @@ use Rattle.rules.proofs.InstalmentPromises.{half-paired}
 use Rattle.rules.proofs.LineLaws.{left-quantities}
 use Rattle.rules.specs.File.{Account}
 use Rattle.rules.specs.Instalments.{HalfPaired, PairedList, afterCall, amountSoFar, firstPairs, listPaired, madeOf, pairAnswer, pairsTold}
-use Rattle.rules.specs.Lines.{pairLines, sumOver, totalAfter}
-use Rattle.rules.specs.Pairs.{contractsAfter}
+use Rattle.rules.specs.Lines.{entriesFor, leftWithBlocked, pairLines, sumOver, totalAfter}
 use Rattle.rules.specs.Promises.{pairQuantity}
 use Rattle.rules.specs.Refusals.{accepted, meaning}
 use Rattle.rules.specs.TakingApart.{BackDemand, GoesBack, afterApart, apartAnswer, backAgain, contractsLeft, countAfter, listApart, madeWith}
@@ -30,15 +29,15 @@ use Rattle.rules.specs.declared.Refusal.{Refusal}
 
 -- Where the first pairs stand in a list, the contracts left in a row are those after as many rounds.
 pub contracts-stand : (b : List ℕ) (a : Account) → meaning b ≡ accepted a → (kept : PairedList)
-    → a .positions ≤ length (kept .list) → FirstPairs a (kept .list) (kept .count)
-    → (r : ℕ) → r < a .positions → contractsLeft a kept r ≡ contractsAfter a (kept .count) r
+    → entriesFor (a .positions) ≤ length (kept .list) → FirstPairs a (kept .list) (kept .count)
+    → (r : ℕ) → r < a .positions → contractsLeft a kept r ≡ leftWithBlocked a (kept .count) r
 unfolding pairLines
 contracts-stand b a e kept long stand r there =
     let promised = half-paired b a e (kept .list) (kept .count) _ (so-far-goes b a e (kept .list) (kept .count) long stand) in
     omega (
       arith,
       promised .contracts r there,
-      left-quantities a [] (contractsAfter a (kept .count)) (a .positions) r there,
+      left-quantities a [] (leftWithBlocked a (kept .count)) (a .positions) r there,
     )
 
 -- A pairing that is refused, and the taking apart, which is refused alike, leave all as it was.
@@ -117,7 +116,7 @@ module _ (b : List ℕ) (kept : PairedList) (k made : ℕ) (q : pairAnswer b (ke
     back-stand : FirstPairs a back-list (kept .count)
     back-stand = apart-stand b after (kept .count + made) made (kept .count) made-apart a e
 
-    back-room : a .positions ≤ length back-list
+    back-room : entriesFor (a .positions) ≤ length back-list
     back-room = omega (arith, back-length, pair-only b a e (kept .list) (kept .count) k made q .0)
 
     again-made : pairAnswer b back-list (kept .count) k ≡ Paired made
@@ -169,7 +168,7 @@ module _ (b : List ℕ) (kept : PairedList) (k left : ℕ) (q : apartAnswer b (k
   stand : FirstPairs a (kept .list) (kept .count)
   stand = apart-only b (kept .list) (kept .count) k a e left q .1
 
-  less-room : a .positions ≤ length less
+  less-room : entriesFor (a .positions) ≤ length less
   less-room =
       omega (arith, apart-length b (kept .list) (kept .count) k, apart-only b (kept .list) (kept .count) k a e left q .0)
 
@@ -200,7 +199,7 @@ module _ (b : List ℕ) (kept : PairedList) (k left : ℕ) (q : apartAnswer b (k
   apart-half = half-paired b a e less left (totalAfter a left) apart-amount
 
   -- and the contracts left are those after as many rounds.
-  pub apart-contracts : (r : ℕ) → r < a .positions → contractsLeft a (afterApart b k kept) r ≡ contractsAfter a left r
+  pub apart-contracts : (r : ℕ) → r < a .positions → contractsLeft a (afterApart b k kept) r ≡ leftWithBlocked a left r
   apart-contracts r there =
       ap (λ (n : ℕ). contractsLeft a (record { list = less; count = n }) r) (ap (countAfter (kept .count)) q)
       ∙ contracts-stand b a e (record { list = less; count = left }) less-room less-stand r there

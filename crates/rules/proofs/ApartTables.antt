@@ -7,7 +7,7 @@ use mathlib.Core.List.{List, [], _∷_}
 use mathlib.Core.Path.{_≡_, refl}
 use Rattle.rules.proofs.CheckOrder.{noRows}
 use Rattle.rules.proofs.FileTables.{rowBytes, twoRows}
-use Rattle.rules.proofs.InstalmentTables.{firstPair, huge, lineOf, listOf, mark, noPairs, onePair, secondPair, twoPairs}
+use Rattle.rules.proofs.InstalmentTables.{enoughOf, firstPair, huge, lineOf, listOf, mark, noPairs, onePair, secondPair, shortOf, twoPairs}
 use Rattle.rules.proofs.PrintedOutput.{example}
 use Rattle.rules.specs.File.{accountOf, layout, positionRow, seriesRow}
 use Rattle.rules.specs.Instalments.{PairedList, afterCall, amountSoFar, beginsWith, instalmentFault, listPaired, pairAnswer}
@@ -54,7 +54,7 @@ ListsApart =
     × (listApart example twoPairs 2 2 ≡ listOf zeros zeros)
     × (listApart example twoPairs 1 1 ≡ listOf zeros secondPair)
     × (listApart example twoPairs 0 0 ≡ twoPairs)
-    × (listApart example (firstPair ∷ secondPair ∷ mark 9 ∷ []) 2 2 ≡ zeros ∷ zeros ∷ mark 9 ∷ [])
+    × (listApart example (enoughOf firstPair secondPair) 2 2 ≡ enoughOf zeros zeros)
     -- One after the other, as both at once; the amount after it, as before the pair.
     × (afterApart example 1 (afterApart example 1 (pairedList twoPairs 2)) ≡ pairedList (listOf zeros zeros) 0)
     × (amountSoFar example (listApart example twoPairs 2 1) 1 ≡ Amount 17_800)
@@ -104,7 +104,7 @@ AboveTheCount =
     × refused AboveCount twoPairs 2 huge
     × refused AboveCount twoPairs 1 2
     × refused AboveCount twoPairs 0 1
-    × refused AboveCount (firstPair ∷ secondPair ∷ mark 9 ∷ []) 2 3
+    × refused AboveCount (enoughOf firstPair secondPair) 2 3
 
 -- 18 before 19, and 18 alone: other lines, or a count above the pairs.
 abbrev LinesBefore : Type 0
@@ -118,17 +118,17 @@ LinesBefore =
     × refused NotFirstPairs (listOf firstPair (lineOf 1 0 1 4 2_900)) 2 1
     × refused NotFirstPairs twoPairs 3 4
     × refused NotFirstPairs twoPairs 3 1
-    × refused NotFirstPairs twoPairs 5 huge
+    × refused NotFirstPairs twoPairs 8 huge
     × refused NotFirstPairs twoPairs huge huge
 
 -- 12 before 18 and 19, and the file's refusal before all of them.
 abbrev Order : Type 0
 Order =
-    refused ListTooShort (mark 7 ∷ mark 8 ∷ []) 0 0
-    × refused ListTooShort (mark 7 ∷ mark 8 ∷ []) 0 1
-    × refused ListTooShort (mark 7 ∷ mark 8 ∷ []) 1 2
-    × refused ListTooShort (firstPair ∷ secondPair ∷ []) 2 3
-    × refused ListTooShort (firstPair ∷ secondPair ∷ []) 2 1
+    refused ListTooShort (shortOf (mark 7) (mark 8)) 0 0
+    × refused ListTooShort (shortOf (mark 7) (mark 8)) 0 1
+    × refused ListTooShort (shortOf (mark 7) (mark 8)) 1 2
+    × refused ListTooShort (shortOf firstPair secondPair) 2 3
+    × refused ListTooShort (shortOf firstPair secondPair) 2 1
     × (apartAnswer (7 ∷ []) [] 0 1 ≡ NotTakenApart FileSize 0)
     × (apartAnswer (7 ∷ []) (mark 7 ∷ []) 1 2 ≡ NotTakenApart FileSize 0)
     × (listApart (7 ∷ []) (mark 7 ∷ []) 1 1 ≡ mark 7 ∷ [])

@@ -33,7 +33,7 @@ rowWith kind flags q pb price reb =
       side = 1;
       kind = kind;
       flags = flags;
-      spare = 0;
+      blocked = 0;
       q = q;
       pe = 3100;
       pb = pb;
@@ -170,9 +170,9 @@ pub later-refusals :
     -- 2 before 12 and before 13
     (marginAnswer (trailerBytes 0 0 12 0) 0 ≡ NoTotal Trailer 0)
     × (amountAnswer (trailerBytes 0 0 12 0) 9 ≡ NoAmount Trailer 0)
-    -- 12: "list has fewer than p entries"; they keep their content
-    × (marginAnswer two 1 ≡ NoTotal ListTooShort 0)
-    × (listAfter two (entry 7 ∷ []) ≡ entry 7 ∷ [])
+    -- 12: "given below 2 × p entries"; they keep their content
+    × (marginAnswer two 3 ≡ NoTotal ListTooShort 0)
+    × (listAfter two (entry 7 ∷ entry 8 ∷ entry 9 ∷ []) ≡ entry 7 ∷ entry 8 ∷ entry 9 ∷ [])
     -- 13: "row p or above"; row 1 has 500 ticks × 5 centavos
     × (amountAnswer two 2 ≡ NoAmount RowAskedFor 0)
     × (amountAnswer two 1 ≡ Amount 2_500)

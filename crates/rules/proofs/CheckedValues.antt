@@ -37,6 +37,7 @@ row side pe limiter barrier reb =
       terms = record { pe = pe; limiter = limiter; barrier = barrier; reb = reb };
       flags = record { knockedIn = false; limited = false; european = true; beforeAnnex = false; knockedOut = false };
       q = 10;
+      blocked = 0;
       premium = 0;
     }
 

@@ -12,6 +12,7 @@ use borrow.Author.Tests.{eq-eqb, ltb-false, ltb-true}
 use Rattle.rules.proofs.Rounds.{left-ended, made-ended, made-first, made-full}
 use Rattle.rules.proofs.Search.{Allowed, choice-allowed, choice-none}
 use Rattle.rules.proofs.Sums.{sumTo-less, sumTo-two, sumTo-under}
+use Rattle.rules.proofs.Tests.{lt-or-ge}
 use Rattle.rules.proofs.Weights.{Apart}
 use Rattle.rules.specs.Lines.{sumTo}
 use Rattle.rules.specs.Pairs.{Book, allowed, choice, leftAfter, madeAfter, madeBy, taken}
@@ -126,3 +127,11 @@ module _ (k : Book) (apart : Apart k) (left : ℕ → ℕ) where
           → length (madeAfter k n left) + length (madeBy (leftAfter k n left) c) < openRows k left
       go NoPair e before = omega arith
       go (Pair w h) e before = omega (arith, made-full k n left e, room n e)
+
+  -- There are fewer pairs than rows, or none.
+  pub made-below : (n : ℕ) → length (madeAfter k n left) ≤ k .rows - 1
+  made-below n = go (lt-or-ge 0 (openRows k left))
+    where
+      go : (0 < openRows k left) ⊎ (openRows k left ≤ 0) → length (madeAfter k n left) ≤ k .rows - 1
+      go (inl some) = omega (arith, made-fewer n (omega arith), open-most k left)
+      go (inr none) = omega (arith, made-open k left n)

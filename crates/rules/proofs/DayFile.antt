@@ -146,6 +146,7 @@ module _ (b : List ℕ) (d : Day) (w : FileWithin b) (v : DayWithin (seriesCount
             terms = record { pe = r .pe; limiter = limiterOf limited (r .pb); barrier = barrierOf (r .kind) (r .price); reb = r .reb };
             flags = flags;
             q = r .q;
+            blocked = r .blocked;
             premium = r .premium;
           }
 

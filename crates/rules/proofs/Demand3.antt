@@ -11,6 +11,7 @@ use lib.Dec.{ltb}
 use lib.ListN.{length}
 use Rattle.rules.proofs.AccountCover as AccountCover
 use Rattle.rules.proofs.AccountCover.{PairsCovered, RowsCovered}
+use Rattle.rules.proofs.BlockedRows.{blocked-fits}
 use Rattle.rules.proofs.Cover.{covers}
 use Rattle.rules.proofs.Least.{least-for}
 use Rattle.rules.proofs.MayPair.{may-pairable, no-flag-16}
@@ -20,7 +21,7 @@ use Rattle.rules.proofs.Reading.{accepted-within}
 use Rattle.rules.proofs.RowFacts.{beside, flag-16-keeps, rebate-none}
 use Rattle.rules.specs.File.{Account, accountOf, layout, positionOf, positionRow, seriesOf, seriesOfRow, seriesRow}
 use Rattle.rules.specs.Limits.{FileWithin}
-use Rattle.rules.specs.Lines.{lines, linesFor, linesGiven, marginAnswer, marginForList, total}
+use Rattle.rules.specs.Lines.{entriesFor, lines, linesFor, linesGiven, marginAnswer, marginForList, total}
 use Rattle.rules.specs.Paths.{payment}
 use Rattle.rules.specs.Promises.{ContractsDemand, CoverDemand, Least, LeastDemand, LowFactors, UnmadeDemand}
 use Rattle.rules.specs.Refusals.{accepted, fileRead, meaning, meant}
@@ -82,16 +83,16 @@ module _ (b : List ℕ) (a : Account) (e : meaning b ≡ accepted a) (factors : 
 -- pays out its payment × M × Q. A pair brings in its held row's payment × M × the pair's quantity. Both are summed over
 -- the whole account; held contracts outside the pairs bring in nothing."
 pub cover : (b : List ℕ) → CoverDemand b
-cover b a e factors = AccountCover.cover a (rows-covered b a e factors) (pairs-covered b a e factors)
+cover b a e factors = AccountCover.cover a (blocked-fits b a e) (rows-covered b a e factors) (pairs-covered b a e factors)
 
 -- "Contracts: for every row, the quantities of the pair lines that name it and the quantity of its left line (0 if it
 -- has none) add up to Q."
 pub contracts : (b : List ℕ) → ContractsDemand b
-contracts b a e = PairPromises.contracts a
+contracts b a e = PairPromises.contracts a (blocked-fits b a e)
 
 -- "Pairs left unmade: after all pair lines, with the contracts left in a row being Q less the quantities of the pair
 -- lines that name it, no pair is allowed. A pair lowers the margin where the written unit margin is greater than the
--- spread's."
+-- spread's." Document 02 [9]: there "a held row has contracts left only while some" of Q less the blocked "are unused".
 pub unmade : (b : List ℕ) → UnmadeDemand b
 unmade b a e = PairPromises.unmade a
 
@@ -114,7 +115,7 @@ answered b n count sum e = by-reading (fileRead b) refl e
     by-reading : (x : FileRead) → fileRead b ≡ x → marginForList b n x ≡ Total count sum
         → (a : Account) × (meaning b ≡ accepted a) × (count ≡ length (lines a)) × (sum ≡ total a) × (linesGiven b n ≡ lines a)
     by-reading (Refused w i) r q = let z : _≡_ {A = ℕ} 0 1 = cc in absurd (omega arith)
-    by-reading (Accepted l) r q = by-room (ltb n (l .positions)) q
+    by-reading (Accepted l) r q = by-room (ltb n (entriesFor (l .positions))) q
       where
         by-room : (t : Bool)
             → cond t (NoTotal ListTooShort 0) (Total (length (lines (accountOf b l))) (total (accountOf b l))) ≡ Total count sum

@@ -52,7 +52,7 @@ Fields =
       side = 3;
       kind = 4;
       flags = 5;
-      spare = 526_086;
+      blocked = 526_086;
       q = 202_050_057;
       pe = 269_422_093;
       pb = 336_794_129;
@@ -168,9 +168,9 @@ Answers =
     ≡
     (114 ∷ 101 ∷ 102 ∷ 117 ∷ 115 ∷ 101 ∷ 100 ∷ 32 ∷ 56 ∷ 32 ∷ 49 ∷ 10 ∷ []))
     × (premiumsFor [] (Refused FileSize 0) ≡ 0)
-    -- A list of p entries is long enough, one of p - 1 is not
-    × (marginAnswer mixed 4 ≡ Total 3 4_880)
-    × (marginAnswer mixed 3 ≡ NoTotal ListTooShort 0)
+    -- A list of 2 × p entries is long enough, one of 2 × p - 1 is not
+    × (marginAnswer mixed 8 ≡ Total 3 4_880)
+    × (marginAnswer mixed 7 ≡ NoTotal ListTooShort 0)
     -- One position: a written row's amount for all its contracts, a held row's premium; minus 13, minus 8
     × (signedAnswer (amountAnswer mixed 2) ≡ pos 7_500)
     × (signedAnswer (amountAnswer mixed 3) ≡ pos 275)

@@ -20,7 +20,7 @@ use Rattle.rules.proofs.NoPositions.{no-total}
 use Rattle.rules.proofs.Tests.{both-fail, lt-or-ge, neither}
 use Rattle.rules.specs.File.{Account, accountOf, layout}
 use Rattle.rules.specs.Instalments.{allPairs, amountSoFar, amountUnless, beginsWith, firstPairs, instalmentFault, madeOf, nextPairs, notFirstPairs, pairAnswer, pairedUnless}
-use Rattle.rules.specs.Lines.{pairLines, totalAfter}
+use Rattle.rules.specs.Lines.{entriesFor, pairLines, totalAfter}
 use Rattle.rules.specs.Refusals.{accepted, fileRead, meaning, meant, number, refused}
 use Rattle.rules.specs.declared.AmountAnswer.the-variants.{Amount, NoAmount}
 use Rattle.rules.specs.declared.Fault.{Fault}
@@ -52,9 +52,9 @@ none-yet a out = record { count-most = omega arith; lines-are = refl }
 
 -- The three ways that a call for an accepted file goes.
 pub data Way (a : Account) (out : List Line) (count : ℕ) : Type 0 where
-  too-short : length out < a .positions → Way a out count
-  not-first : a .positions ≤ length out → (FirstPairs a out count → ⊥) → Way a out count
-  goes-on : a .positions ≤ length out → FirstPairs a out count → Way a out count
+  too-short : length out < entriesFor (a .positions) → Way a out count
+  not-first : entriesFor (a .positions) ≤ length out → (FirstPairs a out count → ⊥) → Way a out count
+  goes-on : entriesFor (a .positions) ≤ length out → FirstPairs a out count → Way a out count
 
 module _ (a : Account) (out : List Line) (count : ℕ) where
   -- 18's test does not hold where the first pairs stand in the list, and only there.
@@ -77,20 +77,20 @@ module _ (a : Account) (out : List Line) (count : ℕ) where
             ∙ begins-take (firstPairs a count) out (not-false (beginsWith (firstPairs a count) out) (tests .1));
       }
 
-  lines-fault : a .positions ≤ length out → (FirstPairs a out count → ⊥) → instalmentFault a out count ≡ Found NotFirstPairs
+  lines-fault : entriesFor (a .positions) ≤ length out → (FirstPairs a out count → ⊥) → instalmentFault a out count ≡ Found NotFirstPairs
   lines-fault long wrong = go (notFirstPairs a out count) refl
     where
       go : (t : Bool) → notFirstPairs a out count ≡ t → instalmentFault a out count ≡ Found NotFirstPairs
       go true e = fault-18 a out count long e
       go false e = absurd (wrong (pass-first e))
 
-  no-fault : a .positions ≤ length out → FirstPairs a out count → instalmentFault a out count ≡ Clean
+  no-fault : entriesFor (a .positions) ≤ length out → FirstPairs a out count → instalmentFault a out count ≡ Clean
   no-fault long f = fault-none a out count long (first-pass f)
 
   pub way : Way a out count
-  way = by-room (lt-or-ge (length out) (a .positions))
+  way = by-room (lt-or-ge (length out) (entriesFor (a .positions)))
     where
-      by-room : (length out < a .positions) ⊎ (a .positions ≤ length out) → Way a out count
+      by-room : (length out < entriesFor (a .positions)) ⊎ (entriesFor (a .positions) ≤ length out) → Way a out count
       by-room (inl short) = too-short short
       by-room (inr long) = by-lines (notFirstPairs a out count) refl
         where
@@ -117,43 +117,43 @@ module _ (b : List ℕ) (a : Account) (e : meaning b ≡ accepted a) (out : List
 
   -- A list of at least p entries in which the first pairs stand: the next pairs are made, as many as are allowed or all; and
   -- the amount is that after so many pairs.
-  pub pair-goes : a .positions ≤ length out → FirstPairs a out count → (allowance : ℕ)
+  pub pair-goes : entriesFor (a .positions) ≤ length out → FirstPairs a out count → (allowance : ℕ)
       → pairAnswer b out count allowance ≡ Paired (madeOf a count allowance)
   pair-goes long f allowance = pair-by allowance Clean (no-fault a out count long f)
 
-  pub so-far-goes : a .positions ≤ length out → FirstPairs a out count → amountSoFar b out count ≡ Amount (totalAfter a count)
+  pub so-far-goes : entriesFor (a .positions) ≤ length out → FirstPairs a out count → amountSoFar b out count ≡ Amount (totalAfter a count)
   so-far-goes long f = so-far-by Clean (no-fault a out count long f)
 
   -- A shorter list: 12, row 0, whatever it holds.
-  pub pair-short : length out < a .positions → (allowance : ℕ) → pairAnswer b out count allowance ≡ NotPaired ListTooShort 0
+  pub pair-short : length out < entriesFor (a .positions) → (allowance : ℕ) → pairAnswer b out count allowance ≡ NotPaired ListTooShort 0
   pair-short short allowance = pair-by allowance (Found ListTooShort) (fault-short a out count short)
 
-  pub so-far-short : length out < a .positions → amountSoFar b out count ≡ NoAmount ListTooShort 0
+  pub so-far-short : length out < entriesFor (a .positions) → amountSoFar b out count ≡ NoAmount ListTooShort 0
   so-far-short short = so-far-by (Found ListTooShort) (fault-short a out count short)
 
   -- A list of at least p entries in which other lines stand: 18, row 0.
-  pub pair-18 : a .positions ≤ length out → (FirstPairs a out count → ⊥) → (allowance : ℕ)
+  pub pair-18 : entriesFor (a .positions) ≤ length out → (FirstPairs a out count → ⊥) → (allowance : ℕ)
       → pairAnswer b out count allowance ≡ NotPaired NotFirstPairs 0
   pair-18 long wrong allowance = pair-by allowance (Found NotFirstPairs) (lines-fault a out count long wrong)
 
-  pub so-far-18 : a .positions ≤ length out → (FirstPairs a out count → ⊥) → amountSoFar b out count ≡ NoAmount NotFirstPairs 0
+  pub so-far-18 : entriesFor (a .positions) ≤ length out → (FirstPairs a out count → ⊥) → amountSoFar b out count ≡ NoAmount NotFirstPairs 0
   so-far-18 long wrong = so-far-by (Found NotFirstPairs) (lines-fault a out count long wrong)
 
   -- The other way round: pairs are told, and an amount, only of a list of at least p entries in which the first pairs stand.
   pub pair-only : (allowance made : ℕ) → pairAnswer b out count allowance ≡ Paired made
-      → (a .positions ≤ length out) × FirstPairs a out count × (made ≡ madeOf a count allowance)
+      → (entriesFor (a .positions) ≤ length out) × FirstPairs a out count × (made ≡ madeOf a count allowance)
   pair-only allowance made q = go (way a out count)
     where
-      go : Way a out count → (a .positions ≤ length out) × FirstPairs a out count × (made ≡ madeOf a count allowance)
+      go : Way a out count → (entriesFor (a .positions) ≤ length out) × FirstPairs a out count × (made ≡ madeOf a count allowance)
       go (too-short h) = let z : _≡_ {A = ℕ} 0 1 = cc (pair-short h allowance) in absurd (omega arith)
       go (not-first h w) = let z : _≡_ {A = ℕ} 0 1 = cc (pair-18 h w allowance) in absurd (omega arith)
       go (goes-on h f) = let same : made ≡ madeOf a count allowance = cc (pair-goes h f allowance) in (h, f, same)
 
   pub so-far-only : (x : ℕ) → amountSoFar b out count ≡ Amount x
-      → (a .positions ≤ length out) × FirstPairs a out count × (x ≡ totalAfter a count)
+      → (entriesFor (a .positions) ≤ length out) × FirstPairs a out count × (x ≡ totalAfter a count)
   so-far-only x q = go (way a out count)
     where
-      go : Way a out count → (a .positions ≤ length out) × FirstPairs a out count × (x ≡ totalAfter a count)
+      go : Way a out count → (entriesFor (a .positions) ≤ length out) × FirstPairs a out count × (x ≡ totalAfter a count)
       go (too-short h) = let z : _≡_ {A = ℕ} 0 1 = cc (so-far-short h) in absurd (omega arith)
       go (not-first h w) = let z : _≡_ {A = ℕ} 0 1 = cc (so-far-18 h w) in absurd (omega arith)
       go (goes-on h f) = let same : x ≡ totalAfter a count = cc (so-far-goes h f) in (h, f, same)
@@ -183,8 +183,8 @@ abbrev pub RefusedFor : List ℕ → List Line → ℕ → Refusal → ℕ → T
 RefusedFor b out count w row =
     (meaning b ≡ refused (number w) row)
     ⊎ ((a : Account) × (meaning b ≡ accepted a) × (row ≡ 0)
-    × (((length out < a .positions) × (number w ≡ 12))
-    ⊎ ((a .positions ≤ length out) × (FirstPairs a out count → ⊥) × (number w ≡ 18))))
+    × (((length out < entriesFor (a .positions)) × (number w ≡ 12))
+    ⊎ ((entriesFor (a .positions) ≤ length out) × (FirstPairs a out count → ⊥) × (number w ≡ 18))))
 
 module _ (b : List ℕ) (out : List Line) (count : ℕ) where
   -- A refused file: its number and row, whatever the list, the count and the allowance.

@@ -17,7 +17,7 @@ use Rattle.rules.proofs.Rounds.{made-count, made-left, named}
 use Rattle.rules.proofs.Tests.{both, both-hold}
 use Rattle.rules.specs.File.{Account}
 use Rattle.rules.specs.Instalments.{allPairs, amountForList, amountSoFar, beginsWith, instalmentFault, listFor, listPaired, madeOf, notFirstPairs, pairAnswer, pairForFile, sameLine}
-use Rattle.rules.specs.Lines.{leftLines, lineAmount, pairLines, premiums, sumOver, total, totalAfter}
+use Rattle.rules.specs.Lines.{entriesFor, leftLines, lineAmount, pairLines, premiums, sumOver, total, totalAfter}
 use Rattle.rules.specs.Pairs.{Made, available, bookOf, contractsAfter, pairsAfter}
 use Rattle.rules.specs.Refusals.{fileRead, refuse}
 use Rattle.rules.specs.declared.Fault.the-variants.{Clean, Found}
@@ -132,7 +132,7 @@ module _ (a : Account) where
   total-same m n e =
       let pairs = after-same m n e in
       ap₂ (λ (l : List Made) (left : ℕ → ℕ). sumOver lineAmount (pairLines a l ++ leftLines a left (a .positions)) + premiums a)
-      pairs (fun-ext (λ r. left-same m n r pairs))
+      pairs (fun-ext (λ r. ap (λ (x : ℕ). x + a .positionAt r .blocked) (left-same m n r pairs)))
 
   pub total-all : (n : ℕ) → length (allPairs a) ≤ n → totalAfter a n ≡ total a
   total-all n h = total-same n (a .positions) (omega (arith, first-count n)) ∙ sym (total-is a)
@@ -158,14 +158,14 @@ module _ (b : List ℕ) (out : List Line) (count : ℕ) where
 
 -- The three ways through the checks after the reading: 12, 18, neither.
 module _ (a : Account) (out : List Line) (count : ℕ) where
-  pub fault-short : length out < a .positions → instalmentFault a out count ≡ Found ListTooShort
+  pub fault-short : length out < entriesFor (a .positions) → instalmentFault a out count ≡ Found ListTooShort
   unfolding instalmentFault refuse
-  fault-short h = rw (lt-ltb (length out) (a .positions) h)
+  fault-short h = rw (lt-ltb (length out) (entriesFor (a .positions)) h)
 
-  pub fault-18 : a .positions ≤ length out → notFirstPairs a out count ≡ true → instalmentFault a out count ≡ Found NotFirstPairs
+  pub fault-18 : entriesFor (a .positions) ≤ length out → notFirstPairs a out count ≡ true → instalmentFault a out count ≡ Found NotFirstPairs
   unfolding instalmentFault refuse
-  fault-18 h e = rw (le-ltb (length out) (a .positions) h, e)
+  fault-18 h e = rw (le-ltb (length out) (entriesFor (a .positions)) h, e)
 
-  pub fault-none : a .positions ≤ length out → notFirstPairs a out count ≡ false → instalmentFault a out count ≡ Clean
+  pub fault-none : entriesFor (a .positions) ≤ length out → notFirstPairs a out count ≡ false → instalmentFault a out count ≡ Clean
   unfolding instalmentFault refuse
-  fault-none h e = rw (le-ltb (length out) (a .positions) h, e)
+  fault-none h e = rw (le-ltb (length out) (entriesFor (a .positions)) h, e)

@@ -14,7 +14,7 @@ use Rattle.rules.proofs.InstalmentLaws.{pairs-fewer, total-all}
 use Rattle.rules.proofs.LineLaws.{length-pairLines}
 use Rattle.rules.specs.File.{Account}
 use Rattle.rules.specs.Instalments.{allPairs, amountSoFar, firstPairs, listFor, listPaired, nextPairs, pairAnswer, pairsTold}
-use Rattle.rules.specs.Lines.{pairLines, total}
+use Rattle.rules.specs.Lines.{entriesFor, pairLines, total}
 use Rattle.rules.specs.Refusals.{accepted, meaning}
 use Rattle.rules.specs.declared.AmountAnswer.the-variants.{Amount}
 use Rattle.rules.specs.declared.Line.{Line}
@@ -32,7 +32,7 @@ module _ (b : List ℕ) (out : List Line) (count : ℕ) where
 -- The list after a call that is not refused.
 module _ (b : List ℕ) (a : Account) (e : meaning b ≡ accepted a) (out : List Line) (count allowance made : ℕ)
     (q : pairAnswer b out count allowance ≡ Paired made) where
-  long : a .positions ≤ length out
+  long : entriesFor (a .positions) ≤ length out
   long = pair-only b a e out count allowance made q .0
 
   stand : FirstPairs a out count

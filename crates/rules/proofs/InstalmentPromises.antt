@@ -8,6 +8,7 @@ use native.Mathlib.Omega.{arith}
 use lib.ListN.{drop, length, take, length-append, length-drop}
 use lib.Seq.{drop-append-add, drop-drop, take-at}
 use Rattle.rules.proofs.AccountCover.{covered-after}
+use Rattle.rules.proofs.BlockedRows.{blocked-fits}
 use Rattle.rules.proofs.Demand3.{pairs-covered, rows-covered}
 use Rattle.rules.proofs.InstalmentAnswers.{FirstPairs, first-length, pair-goes, so-far-goes, so-far-only}
 use Rattle.rules.proofs.InstalmentLaws.{after-same, first-after, first-count, pairs-fewer, total-all, total-same}
@@ -18,8 +19,8 @@ use Rattle.rules.proofs.Rounds.{made-left}
 use Rattle.rules.proofs.Sums.{sumOver-append}
 use Rattle.rules.specs.File.{Account}
 use Rattle.rules.specs.Instalments.{AfterAllowances, AllowancesDemand, HalfPaired, HalfPairedDemand, PairedList, afterCall, afterCalls, allPairs, begun, firstPairs, listPaired, madeOf, pairAnswer, pairsTold, remainders}
-use Rattle.rules.specs.Lines.{lineAmount, pairLines, sumOver, totalAfter}
-use Rattle.rules.specs.Pairs.{Made, available, bookOf, contractsAfter, pairsAfter}
+use Rattle.rules.specs.Lines.{entriesFor, leftWithBlocked, lineAmount, pairLines, sumOver, totalAfter}
+use Rattle.rules.specs.Pairs.{Made, available, bookOf, pairsAfter}
 use Rattle.rules.specs.Promises.{leftQuantity, lineBringsIn, pairQuantity}
 use Rattle.rules.specs.Refusals.{accepted, meaning}
 use Rattle.rules.specs.declared.AmountAnswer.the-variants.{Amount}
@@ -32,7 +33,7 @@ first-same : (a : Account) (m n : ℕ) → min m (length (allPairs a)) ≡ min n
 first-same a m n e =
     ap (pairLines a) (first-after a m ∙ after-same a m n (first-count a m ∙ e ∙ sym (first-count a n)) ∙ sym (first-after a n))
 
-module _ (b : List ℕ) (a : Account) (e : meaning b ≡ accepted a) (out : List Line) (long : a .positions ≤ length out) where
+module _ (b : List ℕ) (a : Account) (e : meaning b ≡ accepted a) (out : List Line) (long : entriesFor (a .positions) ≤ length out) where
   -- What calls with allowances that add up to n leave.
   record Reached (n : ℕ) (s : PairedList) : Type 0 where
     count-is : s .count ≡ min n (length (allPairs a))
@@ -42,7 +43,7 @@ module _ (b : List ℕ) (a : Account) (e : meaning b ≡ accepted a) (out : List
   first-is n s r = omega (arith, first-length a n, r .count-is)
 
   -- The list is as long as it was, and the first pairs stand in it: so no call is refused.
-  room-is : (n : ℕ) (s : PairedList) → Reached n s → a .positions ≤ length (s .list)
+  room-is : (n : ℕ) (s : PairedList) → Reached n s → entriesFor (a .positions) ≤ length (s .list)
   room-is n s r =
       omega (
         arith,
@@ -131,17 +132,24 @@ module _ (a : Account) (n : ℕ) where
   first-sum f = ap (λ (l : List Made). sumOver f (pairLines a l)) (first-after a n)
 
   -- The contracts of the pairs that name a row, and of its remainder.
-  row-contracts : (r : ℕ) → r < a .positions
+  row-contracts : (r : ℕ) → r < a .positions → a .positionAt r .blocked ≤ a .positionAt r .q
       → sumOver (pairQuantity r) (firstPairs a n) + sumOver (leftQuantity r) (remainders a n) ≡ a .positionAt r .q
   unfolding pairLines
-  row-contracts r there =
+  row-contracts r there most =
       omega (
         arith,
         first-sum (pairQuantity r),
         sum-pairs a (pairQuantity r) (pairsAfter a n),
-        left-quantities a [] (contractsAfter a n) (a .positions) r there,
+        left-quantities a [] (leftWithBlocked a n) (a .positions) r there,
         made-left (bookOf a) (available a) n r,
+        most,
       )
+
+  -- What the pairs that name a row take, and the number blocked.
+  row-unblocked : (r : ℕ) → a .positionAt r .blocked ≤ a .positionAt r .q
+      → sumOver (pairQuantity r) (firstPairs a n) + a .positionAt r .blocked ≤ a .positionAt r .q
+  row-unblocked r most =
+      omega (arith, first-sum (pairQuantity r), sum-pairs a (pairQuantity r) (pairsAfter a n), made-left (bookOf a) (available a) n r)
 
 -- "A half-paired account must be covered on every path too."
 pub half-paired : (b : List ℕ) → HalfPairedDemand b
@@ -149,6 +157,7 @@ half-paired b a e out count x q =
     let known = so-far-only b a e out count x q in
     let stand = known .1 .lines-are in
     let is = known .2 in
+    let fits = blocked-fits b a e in
     record {
       pairs-are = stand;
       amount-is =
@@ -164,8 +173,8 @@ half-paired b a e out count x q =
       covered = λ factors path each.
           omega (
             arith,
-            covered-after a count path each (rows-covered b a e factors) (pairs-covered b a e factors),
-            brought a (pairsAfter a count) (contractsAfter a count) (a .positions) path,
+            covered-after a count path each fits (rows-covered b a e factors) (pairs-covered b a e factors),
+            brought a (pairsAfter a count) (leftWithBlocked a count) (a .positions) path,
             sum-pairs a (lineBringsIn a path) (pairsAfter a count),
             first-sum a count (lineBringsIn a path),
             ap (sumOver (lineBringsIn a path)) stand,
@@ -173,11 +182,13 @@ half-paired b a e out count x q =
           );
       contracts = λ r there.
           ap (λ (l : List Line). sumOver (pairQuantity r) l + sumOver (leftQuantity r) (remainders a count)) stand
-          ∙ row-contracts a count r there;
+          ∙ row-contracts a count r there (fits .most r there);
+      unblocked = λ r there.
+          omega (arith, ap (sumOver (pairQuantity r)) stand, row-unblocked a count r (fits .most r there));
     }
 
 -- So it is after every list of allowances, with the amount that is then told.
-pub after-allowances : (b : List ℕ) (a : Account) → meaning b ≡ accepted a → (out : List Line) → a .positions ≤ length out → (l : List ℕ)
+pub after-allowances : (b : List ℕ) (a : Account) → meaning b ≡ accepted a → (out : List Line) → entriesFor (a .positions) ≤ length out → (l : List ℕ)
     → let s = afterCalls b l (begun out) in
     HalfPaired a (take (s .count) (s .list)) (s .count) (totalAfter a (sumOver (λ x. x) l))
 after-allowances b a e out long l =

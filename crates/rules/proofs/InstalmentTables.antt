@@ -2,7 +2,7 @@
 -- bytes; the list after a call; each way to be refused with 18, and what is refused before it; an account without positions.
 -- Assumes nothing.
 use Prim.Native.Nat.{ℕ}
-use mathlib.Core.List.{List, [], _∷_}
+use mathlib.Core.List.{List, [], _∷_, _++_}
 use mathlib.Core.Path.{_≡_, refl}
 use Rattle.rules.proofs.CheckOrder.{noRows}
 use Rattle.rules.proofs.FileTables.{rowBytes, twoRows}
@@ -28,9 +28,15 @@ lineOf kind second third fourth fifth =
 abbrev pub mark : ℕ → Line
 mark n = lineOf n n n n n
 
--- A list of one entry more than the account has positions, with these two first.
+-- Lists with these two entries first, for an account of three positions: one entry too short, long enough, one entry more.
+abbrev pub shortOf : Line → Line → List Line
+shortOf x y = x ∷ y ∷ mark 9 ∷ mark 10 ∷ mark 11 ∷ []
+
+abbrev pub enoughOf : Line → Line → List Line
+enoughOf x y = shortOf x y ++ (mark 12 ∷ [])
+
 abbrev pub listOf : Line → Line → List Line
-listOf x y = x ∷ y ∷ mark 9 ∷ mark 10 ∷ []
+listOf x y = enoughOf x y ++ (mark 13 ∷ [])
 
 -- "pair 0 2 3 0" and "pair 0 1 4 3000", after none, one and both of which the list is this.
 abbrev pub firstPair : Line
@@ -62,8 +68,8 @@ Amounts =
     × (amountSoFar example twoPairs 1 ≡ Amount 17_800)
     × (amountSoFar example twoPairs 0 ≡ Amount 25_300)
     -- Each line is rounded up by itself, and premiums are exact: 4 centavos and 7; 1, 2 and 7.
-    × (amountSoFar (paired 7) (mark 7 ∷ mark 8 ∷ []) 0 ≡ Amount 107)
-    × (amountSoFar (paired 7) (lineOf 1 0 1 1 100 ∷ mark 8 ∷ []) 1 ≡ Amount 207)
+    × (amountSoFar (paired 7) noPairs 0 ≡ Amount 107)
+    × (amountSoFar (paired 7) (listOf (lineOf 1 0 1 1 100) (mark 8)) 1 ≡ Amount 207)
 
 -- How many pairs are made, by the count and the allowance: there are two.
 abbrev PairsMade : Type 0
@@ -119,25 +125,26 @@ NumbersWrong =
 abbrev CountsWrong : Type 0
 CountsWrong =
     refused18 twoPairs 3
-    × refused18 (firstPair ∷ secondPair ∷ lineOf 2 0 3 7_500 0 ∷ mark 10 ∷ []) 3
-    × refused18 twoPairs 5
+    × refused18 (firstPair ∷ secondPair ∷ lineOf 2 0 3 7_500 0 ∷ mark 10 ∷ mark 11 ∷ mark 12 ∷ []) 3
+    × refused18 twoPairs 8
     × refused18 twoPairs huge
     × refused18 onePair 2
     × refused18 noPairs 1
 
--- The file's refusal before 12, and 12 before 18; a list of as many entries as positions is long enough.
+-- The file's refusal before 12, and 12 before 18; a list of twice as many entries as positions is long
+-- enough.
 abbrev Order : Type 0
 Order =
     (pairAnswer (7 ∷ []) [] 1 1 ≡ NotPaired FileSize 0)
     × (amountSoFar (7 ∷ []) [] 1 ≡ NoAmount FileSize 0)
     × (pairAnswer (twoRows (rowBytes 0 1 0 4 10 3100 0 0 0 1)) [] 1 1 ≡ NotPaired PositionRange 1)
     × (amountSoFar (twoRows (rowBytes 0 1 0 4 10 3100 0 0 0 1)) [] 1 ≡ NoAmount PositionRange 1)
-    × (pairAnswer example (mark 7 ∷ mark 8 ∷ []) 1 1 ≡ NotPaired ListTooShort 0)
-    × (amountSoFar example (mark 7 ∷ mark 8 ∷ []) huge ≡ NoAmount ListTooShort 0)
-    × (pairAnswer example (firstPair ∷ secondPair ∷ []) 2 1 ≡ NotPaired ListTooShort 0)
-    × (listPaired example (mark 7 ∷ mark 8 ∷ []) 0 1 ≡ mark 7 ∷ mark 8 ∷ [])
-    × (pairAnswer example (mark 7 ∷ mark 8 ∷ mark 9 ∷ []) 0 1 ≡ Paired 1)
-    × (listPaired example (mark 7 ∷ mark 8 ∷ mark 9 ∷ []) 0 3 ≡ firstPair ∷ secondPair ∷ mark 9 ∷ [])
+    × (pairAnswer example (shortOf (mark 7) (mark 8)) 1 1 ≡ NotPaired ListTooShort 0)
+    × (amountSoFar example (shortOf (mark 7) (mark 8)) huge ≡ NoAmount ListTooShort 0)
+    × (pairAnswer example (shortOf firstPair secondPair) 2 1 ≡ NotPaired ListTooShort 0)
+    × (listPaired example (shortOf (mark 7) (mark 8)) 0 1 ≡ shortOf (mark 7) (mark 8))
+    × (pairAnswer example (enoughOf (mark 7) (mark 8)) 0 1 ≡ Paired 1)
+    × (listPaired example (enoughOf (mark 7) (mark 8)) 0 3 ≡ enoughOf firstPair secondPair)
 
 -- Without positions there are no pairs.
 abbrev NoPairs : Type 0

@@ -12,6 +12,7 @@ use Rattle.rules.proofs.Flag16.{payment-with}
 use Rattle.rules.proofs.Least.{least-with}
 use Rattle.rules.proofs.LineLaws.{lines-are, pair-quantities, same-either, sum-lines}
 use Rattle.rules.proofs.MayPair.{may-pairable, no-flag-16}
+use Rattle.rules.proofs.BlockedRows.{fits-of-file}
 use Rattle.rules.proofs.PairPromises.{contracts}
 use Rattle.rules.proofs.Reading.{accepted-within}
 use Rattle.rules.proofs.RowFacts.{flag-16-keeps}
@@ -19,9 +20,9 @@ use Rattle.rules.proofs.Sums.{sumTo-none}
 use Rattle.rules.proofs.Tests.{both-fail}
 use Rattle.rules.proofs.Weights.{Sound, made-sound}
 use Rattle.rules.specs.File.{Account, accountOf, layout, positionRow, seriesRow}
-use Rattle.rules.specs.Lines.{Each, lines, sumOver}
+use Rattle.rules.specs.Lines.{Each, leftWithBlocked, lines, sumOver}
 use Rattle.rules.specs.Limits.{FileWithin}
-use Rattle.rules.specs.Pairs.{Made, available, bookOf, contractsAfter, pairsAfter}
+use Rattle.rules.specs.Pairs.{Made, available, bookOf, pairsAfter}
 use Rattle.rules.specs.Promises.{KnockedOutDemand, KnockedOutRows, pairNames, pairQuantity}
 use Rattle.rules.specs.Quantities.{fine}
 
@@ -48,13 +49,13 @@ module _ (a : Account) (r : ℕ) (out : a .positionAt r .flags .knockedOut ≡ t
   names-none =
       let p = a .positions in
       rw (lines-are a)
-      (omega (arith, sum-lines a (pairNames r) (pairsAfter a p) (contractsAfter a p) p, none (λ m. 1) (pairsAfter a p) (made-sound (bookOf a) (available a) p), sumTo-none _ p (λ i b. same-either (ltb 0 (contractsAfter a p i)) 0)))
+      (omega (arith, sum-lines a (pairNames r) (pairsAfter a p) (leftWithBlocked a p) p, none (λ m. 1) (pairsAfter a p) (made-sound (bookOf a) (available a) p), sumTo-none _ p (λ i b. same-either (ltb 0 (leftWithBlocked a p i)) 0)))
 
   quantities-none : sumOver (pairQuantity r) (lines a) ≡ 0
   quantities-none =
       let p = a .positions in
       rw (lines-are a)
-      (pair-quantities a (pairsAfter a p) (contractsAfter a p) p r ∙ none (λ m. m .quantity) (pairsAfter a p) (made-sound (bookOf a) (available a) p))
+      (pair-quantities a (pairsAfter a p) (leftWithBlocked a p) p r ∙ none (λ m. m .quantity) (pairsAfter a p) (made-sound (bookOf a) (available a) p))
 
 rows-within : (b : List ℕ) → FileWithin b → KnockedOutRows (accountOf b (layout b))
 unfolding layout
@@ -67,7 +68,7 @@ rows-within b h r there out =
     let series = h .series-rows (row .series) (within .series-below) in
     record {
       never-paired = names-none a r out;
-      all-left = omega (arith, contracts a r there, quantities-none a r out);
+      all-left = omega (arith, contracts a (fits-of-file b h) r there, quantities-none a r out);
       pays = λ path i. payment-with (a .seriesAt (row .series)) (a .positionAt r) out path ∙ ap fine (keeps out);
       least = λ w. least-with (a .seriesAt (row .series)) (a .positionAt r) (mul-le-mul-left (k .pv) (series .fb-most)) keeps;
     }

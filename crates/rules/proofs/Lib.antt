@@ -37,6 +37,7 @@ pub mod Weights
 pub mod Counts
 pub mod MayPair
 pub mod LineLaws
+pub mod BlockedRows
 pub mod PairPromises
 pub mod AccountCover
 pub mod PairingExample
@@ -74,3 +75,6 @@ pub mod ApartAnswers
 pub mod ApartLists
 pub mod ApartPromises
 pub mod ApartTables
+-- Contracts blocked as collateral (document 02 [9]).
+pub mod BlockedPromises
+pub mod BlockedTables

@@ -1,7 +1,7 @@
 -- Document 01, Pairs: sums over pair lines followed by left lines, and what holds of each of them, whatever the pairs, the
 -- contracts left and the rows; and how many lines an account has after n rounds, for every n.
 -- Assumes nothing.
-use Prim.Native.Nat.{ℕ, zero, suc, _+_, _*_, _≤_, _<_, min}
+use Prim.Native.Nat.{ℕ, zero, suc, _+_, _*_, _-_, _≤_, _<_, min}
 use mathlib.Core.Bool.{Bool, true, false, cond}
 use mathlib.Core.List.{List, [], _∷_, _++_}
 use mathlib.Core.Path.{_≡_, refl, sym, ap, ap₂, _∙_}
@@ -9,12 +9,13 @@ use native.Mathlib.Omega.{arith}
 use lib.Dec.{ltb}
 use lib.ListN.{length, length-append}
 use borrow.Author.Tests.{eq-eqb, ltb-false, ltb-true, ne-eqb}
-use Rattle.rules.proofs.Counts.{bound, openRows}
+use Rattle.rules.proofs.Counts.{made-below}
+use Rattle.rules.proofs.MayPair.{apart}
 use Rattle.rules.proofs.Rounds.{named}
-use Rattle.rules.proofs.Sums.{each-append, sumOver-append, sumOver-none, sumTo-none, sumTo-only, sumTo-same}
+use Rattle.rules.proofs.Sums.{each-append, sumOver-append, sumOver-none, sumTo-none, sumTo-only, sumTo-same, sumTo-under}
 use Rattle.rules.specs.File.{Account, seriesOfRow}
-use Rattle.rules.specs.Lines.{Each, leftAmount, leftAmountAt, leftLine, leftLines, lineAmount, lines, linesAfter, pairLine, pairLines, spreadAmount, sumOver, sumTo, total, totalAfter}
-use Rattle.rules.specs.Pairs.{Made, available, bookOf, contractsAfter, pairsAfter}
+use Rattle.rules.specs.Lines.{Each, leftAmount, leftAmountAt, leftLine, leftLines, leftWithBlocked, lineAmount, lines, linesAfter, pairLine, pairLines, spreadAmount, sumOver, sumTo, total, totalAfter}
+use Rattle.rules.specs.Pairs.{Made, available, bookOf, pairsAfter}
 use Rattle.rules.specs.Promises.{lineBringsIn, leftQuantity, pairQuantity, rowPayment}
 use Rattle.rules.specs.declared.Line.{Line}
 use Rattle.rules.specs.declared.Position.{Position}
@@ -148,9 +149,12 @@ pub length-lines : (a : Account) (l : List Made) (left : ℕ → ℕ) (n : ℕ)
 length-lines a l left n =
     length-append (pairLines a l) _ ∙ ap₂ (λ x y. x + y) (length-pairLines a l) (length-leftLines a left n)
 
--- "The line count is at most p"
-pub line-count : (a : Account) (n : ℕ) → length (linesAfter a n) ≤ a .positions
-unfolding openRows
+-- "there can be up to 2 × p − 1 lines" (document 02 [9]): p - 1 pairs, and a left line for each row. Where p is 0 it is 0.
+pub line-count : (a : Account) (n : ℕ) → length (linesAfter a n) ≤ 2 * a .positions - 1
 line-count a n =
-    omega
-    (arith, length-lines a (pairsAfter a n) (contractsAfter a n) (a .positions), bound (bookOf a) (available a) n)
+    omega (
+      arith,
+      length-lines a (pairsAfter a n) (leftWithBlocked a n) (a .positions),
+      made-below (bookOf a) (apart a) (available a) n,
+      sumTo-under (λ r. min 1 (leftWithBlocked a n r)) 1 (a .positions) (λ r l. omega arith),
+    )

@@ -27,6 +27,7 @@ knockedInRow side pe limiter barrier reb =
       terms = record { pe = pe; limiter = limiter; barrier = barrier; reb = reb };
       flags = record { knockedIn = true; limited = false; european = true; beforeAnnex = false; knockedOut = false };
       q = 10;
+      blocked = 0;
       premium = 0;
     }
 
@@ -39,6 +40,7 @@ knockedOutRow side pe limiter barrier reb =
       terms = record { pe = pe; limiter = limiter; barrier = barrier; reb = reb };
       flags = record { knockedIn = false; limited = false; european = true; beforeAnnex = false; knockedOut = true };
       q = 10;
+      blocked = 0;
       premium = 0;
     }
 

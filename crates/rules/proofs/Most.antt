@@ -11,19 +11,21 @@ use native.Mathlib.Nat.{mul-le-mul}
 use native.Mathlib.Omega.{arith}
 use lib.ListN.{length}
 use borrow.Author.Tests.{eq-eqb}
+use Rattle.rules.proofs.BlockedRows as BlockedRows
+use Rattle.rules.proofs.BlockedRows.{BlockedFits, amounts-after, fits-of-file}
 use Rattle.rules.proofs.Bounds.{unit-most}
 use Rattle.rules.proofs.Counts.{bound}
-use Rattle.rules.proofs.LineLaws.{amounts, each-line, lines-are, total-is}
+use Rattle.rules.proofs.LineLaws.{each-line, lines-are, total-is}
 use Rattle.rules.proofs.MayPair.{may-pairable}
 use Rattle.rules.proofs.Raised.{sums-raised}
 use Rattle.rules.proofs.Reading.{accepted-within}
-use Rattle.rules.proofs.Rounds.{left-falls, made-left, named}
+use Rattle.rules.proofs.Rounds.{made-left, named}
 use Rattle.rules.proofs.Sums.{each-both, sumTo-add, sumTo-alike, sumTo-least, sumTo-none, sumTo-same, sumTo-scale, sumTo-under}
 use Rattle.rules.proofs.Tests.{lt-or-ge}
 use Rattle.rules.proofs.Weights.{Sound, made-sound}
 use Rattle.rules.specs.File.{Account, accountOf, layout, positionCount, positionRow, seriesOfRow}
 use Rattle.rules.specs.Limits.{FileWithin, mostPositions}
-use Rattle.rules.specs.Lines.{Each, heldPremium, leftAmount, leftAmountAt, lineAmount, lines, premiumAt, premiums, spreadAmount, sumOver, sumTo, total, totalAfter}
+use Rattle.rules.specs.Lines.{Each, heldPremium, leftAmount, leftAmountAt, leftWithBlocked, lineAmount, lines, premiumAt, premiums, spreadAmount, sumOver, sumTo, total, totalAfter}
 use Rattle.rules.specs.OnePosition.{amountBySide, amountOf, positionAmount, premiumOf, unitMargin}
 use Rattle.rules.specs.Pairs.{Made, available, bookOf, contractsAfter, pairsAfter}
 use Rattle.rules.specs.Reais.{MostDemand, WithinMost, mostAmount, mostTotal}
@@ -90,8 +92,8 @@ module _ (a : Account) where
       let itself : named (m .written) m ≡ m .quantity = rw (eq-eqb (m .written) (m .written) refl) refl in
       (omega (arith, itself, e (m .written)), quantities-most l (λ r. omega (arith, e r)))
 
-module _ (a : Account) (rows : (r : ℕ) → r < a .positions → RowMost (seriesOfRow a r) (a .positionAt r)) (few : a .positions ≤ mostPositions) where
-  row-most : (r : ℕ) → r < a .positions → (q : ℕ) → q ≤ available a r
+module _ (a : Account) (fits : BlockedFits a) (rows : (r : ℕ) → r < a .positions → RowMost (seriesOfRow a r) (a .positionAt r)) (few : a .positions ≤ mostPositions) where
+  row-most : (r : ℕ) → r < a .positions → (q : ℕ) → q ≤ a .positionAt r .q
       → leftAmountAt a r q + premiumAt a r + 100 * mostPositions * held a r ≤ mostAmount
   row-most r l q less = left-most (seriesOfRow a r) (a .positionAt r) (rows r l) (a .positionAt r .side) q less
 
@@ -105,8 +107,8 @@ module _ (a : Account) (rows : (r : ℕ) → r < a .positions → RowMost (serie
   lines-most : Each (λ x. lineAmount x ≤ mostAmount) (lines a)
   lines-most =
       rw (lines-are a)
-      (each-line a (λ x. lineAmount x ≤ mostAmount) pairs (contractsAfter a (a .positions)) (a .positions) spreads
-      (λ r l. omega (arith, row-most r l (contractsAfter a (a .positions) r) (left-falls (bookOf a) (available a) (a .positions) r))))
+      (each-line a (λ x. lineAmount x ≤ mostAmount) pairs (leftWithBlocked a (a .positions)) (a .positions) spreads
+      (λ r l. omega (arith, row-most r l (leftWithBlocked a (a .positions) r) (BlockedRows.left-most a fits (a .positions) r l))))
     where
       pairs : List Made
       pairs = pairsAfter a (a .positions)
@@ -142,7 +144,7 @@ module _ (a : Account) (rows : (r : ℕ) → r < a .positions → RowMost (serie
   after-most : (n : ℕ) → totalAfter a n ≤ mostTotal
   unfolding premiums
   after-most n =
-      omega (arith, amounts a (pairsAfter a n) (contractsAfter a n) (a .positions), sums-raised a n, rows-most, pairs-most n)
+      omega (arith, amounts-after a fits n, sums-raised a n, rows-most, pairs-most n)
 
   total-most : total a ≤ mostTotal
   total-most = rw (total-is a) (after-most (a .positions))
@@ -161,8 +163,8 @@ most-of-file b h =
     let a : Account = accountOf b (layout b) in
     record {
       position-most = λ r l. side-most (seriesOfRow a r) (a .positionAt r) (rows-of-file b h r l) (a .positionAt r .side);
-      line-most = lines-most a (rows-of-file b h) (h .trailer .positions-most);
-      total-most = total-most a (rows-of-file b h) (h .trailer .positions-most);
+      line-most = lines-most a (fits-of-file b h) (rows-of-file b h) (h .trailer .positions-most);
+      total-most = total-most a (fits-of-file b h) (rows-of-file b h) (h .trailer .positions-most);
     }
 
 pub within-most : (b : List ℕ) → MostDemand b
@@ -176,20 +178,20 @@ unfolding layout
 within-most-after b a e n =
     let known = accepted-within b a e in
     subst (λ (x : Account). totalAfter x n ≤ mostTotal) (sym (known .1))
-    (after-most (accountOf b (layout b)) (rows-of-file b (known .0)) (known .0 .trailer .positions-most) n)
+    (after-most (accountOf b (layout b)) (fits-of-file b (known .0)) (rows-of-file b (known .0)) (known .0 .trailer .positions-most) n)
 
 -- An account without held rows: each written row has its own line, with all its contracts.
-no-held-total : (a : Account) → sumTo (held a) (a .positions) ≡ 0
+no-held-total : (a : Account) → BlockedFits a → sumTo (held a) (a .positions) ≡ 0
     → total a ≡ sumTo (λ r. leftAmountAt a r (available a r)) (a .positions) + premiums a
 unfolding sumOver
-no-held-total a none =
+no-held-total a fits none =
     let pairs = pairsAfter a (a .positions) in
     let left = contractsAfter a (a .positions) in
     let empty = none-paired a none pairs (sound a (a .positions)) in
     rw (total-is a)
     (omega (
       arith,
-      amounts a pairs left (a .positions),
+      amounts-after a fits (a .positions),
       ap (sumOver (spreadAmount a)) empty,
       sumTo-same (λ r. leftAmountAt a r (left r)) (λ r. leftAmountAt a r (available a r)) (a .positions)
           (λ r l. ap (leftAmountAt a r) (omega (arith, made-left (bookOf a) (available a) (a .positions) r, ap (sumOver (named r)) empty))),
@@ -208,6 +210,7 @@ largestAccount =
         terms = record { pe = 1; limiter = NoLimiter; barrier = NoBarrier; reb = 0 };
         flags = record { knockedIn = false; limited = false; european = true; beforeAnnex = false; knockedOut = false };
         q = 100_000;
+        blocked = 0;
         premium = 0;
       };
     }
@@ -215,7 +218,7 @@ largestAccount =
 pub total-reached : total largestAccount ≡ mostTotal
 unfolding unitMargin premiums
 total-reached =
-    no-held-total largestAccount (sumTo-none (held largestAccount) mostPositions (λ r l. refl))
+    no-held-total largestAccount (record { most = λ r l. omega arith; written = λ r l e. refl }) (sumTo-none (held largestAccount) mostPositions (λ r l. refl))
     ∙ ap₂ (λ x y. x + y)
     (sumTo-same _ (λ r. mostAmount) mostPositions (λ r l. refl) ∙ sumTo-alike mostAmount mostPositions)
     (sumTo-none (premiumAt largestAccount) mostPositions (λ r l. refl))

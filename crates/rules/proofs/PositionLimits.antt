@@ -46,9 +46,10 @@ module _ (s : ℕ) (k : SeriesRow) (r : PositionRow) where
       let up : Bool = eqb (r .kind) 1 || eqb (r .kind) 3 in
       let down : Bool = eqb (r .kind) 2 || eqb (r .kind) 4 in
       let passes = all-pass (positionRowChecks s k r) e in
-      let terms = none-of-five (leb s (r .series)) (ltb 1 (r .side)) (ltb 4 (r .kind)) (wrongFlags r) (nonzero (r .spare)) (passes .0) in
+      let terms = none-of-five (leb s (r .series)) (ltb 1 (r .side)) (ltb 4 (r .kind)) (wrongFlags r) (eqb (r .side) 1 && nonzero (r .blocked)) (passes .0) in
       let flags = none-of-three (ltb 31 (r .flags)) (knocked && outside 1 2 (r .kind)) (out && outside 3 4 (r .kind)) (terms .3) in
-      let range = none-of-five (outside 1 100_000 (r .q)) (outside 1 10_000_000 (r .pe)) (ltb 10_000_000 (r .reb)) (ltb 10_000_000 (r .premium)) (eqb (r .side) 1 && nonzero (r .premium)) (passes .1 .0) in
+      let blocked = neither (outside 1 100_000 (r .q) || outside 1 10_000_000 (r .pe) || ltb 10_000_000 (r .reb) || ltb 10_000_000 (r .premium) || (eqb (r .side) 1 && nonzero (r .premium))) (ltb (r .q) (r .blocked)) (passes .1 .0) in
+      let range = none-of-five (outside 1 100_000 (r .q)) (outside 1 10_000_000 (r .pe)) (ltb 10_000_000 (r .reb)) (ltb 10_000_000 (r .premium)) (eqb (r .side) 1 && nonzero (r .premium)) (blocked .0) in
       let limits = none-of-three (not limited && nonzero (r .pb)) (limited && call && (leb (r .pb) (r .pe) || ltb 10_000_000 (r .pb))) (limited && not call && leb (r .pe) (r .pb)) (passes .1 .1 .0) in
       let prices = neither (eqb (r .kind) 0 && (nonzero (r .price) || nonzero (r .reb))) (nonzero (r .kind) && outside 1 10_000_000 (r .price)) (passes .1 .1 .1 .0) in
       let none : r .kind ≡ 0 → (nonzero (r .price) ≡ false) × (nonzero (r .reb) ≡ false) = λ z. neither (nonzero (r .price)) (nonzero (r .reb)) (not-both (eqb (r .kind) 0) (nonzero (r .price) || nonzero (r .reb)) (prices .0) (eq-eqb (r .kind) 0 z)) in
@@ -60,9 +61,10 @@ module _ (s : ℕ) (k : SeriesRow) (r : PositionRow) where
         flags-most = ltb-false 31 (r .flags) (flags .0);
         knocked-in-kind = λ z. inside 1 2 (r .kind) (not-both knocked (outside 1 2 (r .kind)) (flags .1) (eq-eqb (r .flags % 2) 1 z));
         knocked-out-kind = λ z. inside 3 4 (r .kind) (not-both out (outside 3 4 (r .kind)) (flags .2) (eq-eqb (r .flags / 16 % 2) 1 z));
-        spare-zero = is-zero (r .spare) (terms .4);
+        blocked-written = λ z. is-zero (r .blocked) (not-both (eqb (r .side) 1) (nonzero (r .blocked)) (terms .4) (eq-eqb (r .side) 1 z));
         q-least = inside 1 100_000 (r .q) (range .0) .0;
         q-most = inside 1 100_000 (r .q) (range .0) .1;
+        blocked-most = ltb-false (r .q) (r .blocked) (blocked .1);
         pe-least = inside 1 10_000_000 (r .pe) (range .1) .0;
         pe-most = inside 1 10_000_000 (r .pe) (range .1) .1;
         reb-most = ltb-false 10_000_000 (r .reb) (range .2);
@@ -91,21 +93,23 @@ module _ (s : ℕ) (k : SeriesRow) (r : PositionRow) where
       let up : Bool = eqb (r .kind) 1 || eqb (r .kind) 3 in
       let down : Bool = eqb (r .kind) 2 || eqb (r .kind) 4 in
       all-clean (positionRowChecks s k r) (
-        (five-fail (leb s (r .series)) (ltb 1 (r .side)) (ltb 4 (r .kind)) (wrongFlags r) (nonzero (r .spare))
+        (five-fail (leb s (r .series)) (ltb 1 (r .side)) (ltb 4 (r .kind)) (wrongFlags r) (eqb (r .side) 1 && nonzero (r .blocked))
             (lt-leb s (r .series) (h .series-below))
             (le-ltb 1 (r .side) (h .side-most))
             (le-ltb 4 (r .kind) (h .kind-most))
             (three-fail (ltb 31 (r .flags)) (knocked && outside 1 2 (r .kind)) (out && outside 3 4 (r .kind)) (le-ltb 31 (r .flags) (h .flags-most))
             (one-fails knocked (outside 1 2 (r .kind)) (λ t. let z = h .knocked-in-kind (eqb-true (r .flags % 2) 1 t) in in-range 1 2 (r .kind) (z .0) (z .1)))
             (one-fails out (outside 3 4 (r .kind)) (λ t. let z = h .knocked-out-kind (eqb-true (r .flags / 16 % 2) 1 t) in in-range 3 4 (r .kind) (z .0) (z .1))))
-            (zero-is (r .spare) (h .spare-zero))),
+            (one-fails (eqb (r .side) 1) (nonzero (r .blocked)) (λ t. zero-is (r .blocked) (h .blocked-written (eqb-true (r .side) 1 t))))),
         (
-          (five-fail (outside 1 100_000 (r .q)) (outside 1 10_000_000 (r .pe)) (ltb 10_000_000 (r .reb)) (ltb 10_000_000 (r .premium)) (eqb (r .side) 1 && nonzero (r .premium))
+          (both-fail (outside 1 100_000 (r .q) || outside 1 10_000_000 (r .pe) || ltb 10_000_000 (r .reb) || ltb 10_000_000 (r .premium) || (eqb (r .side) 1 && nonzero (r .premium))) (ltb (r .q) (r .blocked))
+              (five-fail (outside 1 100_000 (r .q)) (outside 1 10_000_000 (r .pe)) (ltb 10_000_000 (r .reb)) (ltb 10_000_000 (r .premium)) (eqb (r .side) 1 && nonzero (r .premium))
               (in-range 1 100_000 (r .q) (h .q-least) (h .q-most))
               (in-range 1 10_000_000 (r .pe) (h .pe-least) (h .pe-most))
               (le-ltb 10_000_000 (r .reb) (h .reb-most))
               (le-ltb 10_000_000 (r .premium) (h .premium-most))
-              (one-fails (eqb (r .side) 1) (nonzero (r .premium)) (λ t. zero-is (r .premium) (h .premium-written (eqb-true (r .side) 1 t))))),
+              (one-fails (eqb (r .side) 1) (nonzero (r .premium)) (λ t. zero-is (r .premium) (h .premium-written (eqb-true (r .side) 1 t)))))
+              (le-ltb (r .q) (r .blocked) (h .blocked-most))),
           (
             (three-fail (not limited && nonzero (r .pb)) (limited && call && (leb (r .pb) (r .pe) || ltb 10_000_000 (r .pb))) (limited && not call && leb (r .pe) (r .pb))
                 (one-fails (not limited) (nonzero (r .pb)) (λ t. zero-is (r .pb) (h .pb-none (bit-zero (r .flags / 2) t))))

@@ -11,13 +11,13 @@ use native.Mathlib.Omega.{arith}
 use lib.Dec.{eqb}
 use lib.ListN.{length, length-append}
 use borrow.Author.Tests.{eq-eqb, eqb-true, ne-eqb}
-use Rattle.rules.proofs.LineLaws.{amounts}
+use Rattle.rules.proofs.BlockedRows.{BlockedFits, amounts-after, blocked-fits}
 use Rattle.rules.proofs.MayPair.{may-pairable}
 use Rattle.rules.proofs.Rounds.{left-more, made-more}
 use Rattle.rules.proofs.Search.{choice-allowed}
 use Rattle.rules.proofs.Sums.{sumOver-append, sumTo-one}
 use Rattle.rules.specs.File.{Account, seriesOfRow}
-use Rattle.rules.specs.Lines.{leftAmount, leftAmountAt, premiums, spreadAmount, spreadUnit, sumOver, sumTo, totalAfter}
+use Rattle.rules.specs.Lines.{leftAmount, leftAmountAt, spreadAmount, spreadUnit, sumOver, sumTo, totalAfter}
 use Rattle.rules.specs.OnePosition.{amountOf, unitMargin}
 use Rattle.rules.specs.Pairs.{available, bookOf, choice, contractsAfter, leftAfter, madeAfter, madeBy, pairsAfter, taken}
 use Rattle.rules.specs.Reais.{RaisedDemand}
@@ -110,20 +110,16 @@ module _ (a : Account) where
         length-append (pairsAfter a n) (madeBy left c),
       )
 
-  -- The line amounts after n rounds, as two sums.
-  sums : (n : ℕ) → totalAfter a n ≡ sumOver (spreadAmount a) (pairsAfter a n) + leftSum (contractsAfter a n) + premiums a
-  sums n = ap (λ (x : ℕ). x + premiums a) (amounts a (pairsAfter a n) (contractsAfter a n) (a .positions))
-
-  by-a-pair : (n w h : ℕ) → choice (bookOf a) (contractsAfter a n) ≡ Pair w h
+  by-a-pair : BlockedFits a → (n w h : ℕ) → choice (bookOf a) (contractsAfter a n) ≡ Pair w h
       → totalAfter a (n + 1) ≤ totalAfter a n + 100 * min 1 (contractsAfter a (n + 1) w)
-  by-a-pair n w h e =
+  by-a-pair fits n w h e =
       let left = contractsAfter a n in
       let more : contractsAfter a (n + 1) ≡ taken left (Pair w h) = left-more (bookOf a) n (available a) ∙ ap (taken left) e in
       let made : pairsAfter a (n + 1) ≡ pairsAfter a n ++ madeBy left (Pair w h) = made-more (bookOf a) n (available a) ∙ ap (λ (c : Choice). pairsAfter a n ++ madeBy left c) e in
       omega (
         arith,
-        sums n,
-        sums (n + 1),
+        amounts-after a fits n,
+        amounts-after a fits (n + 1),
         ap leftSum more,
         ap (λ (f : ℕ → ℕ). f w) more,
         ap (sumOver (spreadAmount a)) made,
@@ -131,9 +127,11 @@ module _ (a : Account) where
         pair-round left w h e,
       )
 
-  by-all-pairs : (n : ℕ) → totalAfter a n ≤ totalAfter a 0 + 100 * length (pairsAfter a n)
+  by-all-pairs : BlockedFits a → (n : ℕ) → totalAfter a n ≤ totalAfter a 0 + 100 * length (pairsAfter a n)
   unfolding sumOver madeAfter leftAfter
-  by-all-pairs n = omega (arith, sums-raised n, sums n, sums 0)
+  by-all-pairs fits n = omega (arith, sums-raised n, amounts-after a fits n, amounts-after a fits 0)
 
 pub raised : (b : List ℕ) → RaisedDemand b
-raised b a e = record { by-a-pair = by-a-pair a; by-all-pairs = by-all-pairs a }
+raised b a e =
+    let fits = blocked-fits b a e in
+    record { by-a-pair = by-a-pair a fits; by-all-pairs = by-all-pairs a fits }

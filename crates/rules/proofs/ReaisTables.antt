@@ -36,10 +36,10 @@ paired premium = writtenRow ++ rowBytes 0 0 0 4 1 11 0 0 0 premium ++ trailerByt
 -- the pair and 2 for the contract left are 100 each.
 abbrev pub PairRaises : Type 0
 PairRaises =
-    (marginAnswer alone 1 ≡ Total 1 100)
+    (marginAnswer alone 2 ≡ Total 1 100)
     × (totalAfter (accountOf (paired 0) (layout (paired 0))) 0 ≡ 100)
-    × (marginAnswer (paired 0) 2 ≡ Total 2 200)
-    × (linesGiven (paired 0) 2
+    × (marginAnswer (paired 0) 4 ≡ Total 2 200)
+    × (linesGiven (paired 0) 4
     ≡ record { kind = 1; secondNumber = 0; thirdNumber = 1; fourthNumber = 1; fifthNumber = 100 }
     ∷ record { kind = 2; secondNumber = 0; thirdNumber = 1; fourthNumber = 100; fifthNumber = 0 }
     ∷ [])
@@ -50,11 +50,11 @@ ExactPremiums =
     (signedAnswer (amountAnswer (paired 7) 0) ≡ pos 100)
     × (signedAnswer (amountAnswer (paired 7) 1) ≡ pos 7)
     × (premiumAnswer (paired 7) ≡ Amount 7)
-    × (marginAnswer (paired 7) 2 ≡ Total 2 207)
+    × (marginAnswer (paired 7) 4 ≡ Total 2 207)
 
 -- PV 10,000,000, fa 10,000,000, M 1,000; written PE 1, Q 100,000.
 abbrev largest : List ℕ
 largest = seriesRowBytes 10_000_000 10_000_000 0 0 1_000 0 0 ++ rowBytes 0 1 0 4 100_000 1 0 0 0 0 ++ trailerBytes 1 1 (span 1 1) 0
 
 abbrev pub Largest : Type 0
-Largest = (signedAnswer (amountAnswer largest 0) ≡ pos mostAmount) × (marginAnswer largest 1 ≡ Total 1 mostAmount)
+Largest = (signedAnswer (amountAnswer largest 0) ≡ pos mostAmount) × (marginAnswer largest 2 ≡ Total 1 mostAmount)

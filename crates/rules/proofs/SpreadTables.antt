@@ -145,6 +145,7 @@ termed side number european beforeAnnex pe =
       terms = record { pe = pe; limiter = NoLimiter; barrier = NoBarrier; reb = 0 };
       flags = record { knockedIn = false; limited = false; european = european; beforeAnnex = beforeAnnex; knockedOut = false };
       q = 10;
+      blocked = 0;
       premium = 0;
     }
 

@@ -7,9 +7,9 @@ use native.Mathlib.Omega.{arith}
 use Rattle.rules.proofs.LineLaws.{each-line, lines-are, total-is}
 use Rattle.rules.proofs.Sums.{each-all, sumTo-same}
 use Rattle.rules.specs.File.{Account, seriesOfRow}
-use Rattle.rules.specs.Lines.{Each, heldPremium, leftAmount, lineAmount, lines, premiumAt, premiums, sumOver, sumTo, total}
+use Rattle.rules.specs.Lines.{Each, heldPremium, leftAmount, leftWithBlocked, lineAmount, lines, premiumAt, premiums, sumOver, sumTo, total}
 use Rattle.rules.specs.OnePosition.{amountBySide, positionAmount, roundedUp}
-use Rattle.rules.specs.Pairs.{contractsAfter, pairsAfter}
+use Rattle.rules.specs.Pairs.{pairsAfter}
 use Rattle.rules.specs.Reais.{RoundedToReais, WholeReaisDemand, exactAmount, exactBySide, exactPremium, exactPremiumAt}
 use Rattle.rules.specs.declared.Line.{Line}
 use Rattle.rules.specs.declared.Position.{Position}
@@ -49,8 +49,8 @@ module _ (a : Account) where
   lines-rounded =
       let p = a .positions in
       rw (lines-are a)
-      (each-line a Rounded (pairsAfter a p) (contractsAfter a p) p (each-all (λ m. rounded-to-reais _) (pairsAfter a p))
-      (λ r l. left-rounded (a .positionAt r .side) (seriesOfRow a r) (a .positionAt r) (contractsAfter a p r)))
+      (each-line a Rounded (pairsAfter a p) (leftWithBlocked a p) p (each-all (λ m. rounded-to-reais _) (pairsAfter a p))
+      (λ r l. left-rounded (a .positionAt r .side) (seriesOfRow a r) (a .positionAt r) (leftWithBlocked a p r)))
 
   premiums-exact : premiums a ≡ sumTo (λ r. exactPremiumAt a r) (a .positions)
   unfolding premiums

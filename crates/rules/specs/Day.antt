@@ -142,6 +142,7 @@ positionAfter d p =
       terms = p .terms;
       flags = cond (eqb (p .series) (d .series)) (flagsOfDay d p) (p .flags);
       q = p .q;
+      blocked = p .blocked;
       premium = p .premium;
     }
 

@@ -28,7 +28,8 @@ u8At b i = getD b i 0
 abbrev pub u16At : List ℕ → ℕ → ℕ
 u16At b i = u8At b i + 256 * u8At b (i + 1)
 
--- Three spare bytes are one number: it is zero exactly where each of them is.
+-- Three bytes are one number. That of a series row's spare bytes is zero exactly where each of them is; that of a position row
+-- is how many contracts are blocked (document 02 [9]).
 abbrev pub u24At : List ℕ → ℕ → ℕ
 u24At b i = u8At b i + 256 * u8At b (i + 1) + 65_536 * u8At b (i + 2)
 
@@ -92,7 +93,8 @@ unfoldable pub seriesRow : List ℕ → Layout → ℕ → SeriesRow
 seriesRow b l i = seriesRowFrom b (l .seriesStart + seriesWidth * i)
 
 -- "Position row, 32 bytes: series u16 .. side u8 .. barrier kind u8; flags u8; three zero bytes; then u32 each: Q ..
--- PE .. PB; barrier price; REB .. unsettled premium".
+-- PE .. PB; barrier price; REB .. unsettled premium". Document 02 [9], of the three: "Bytes 5 to 7 of a held row become the
+-- number blocked".
 abbrev pub positionRowFrom : List ℕ → ℕ → PositionRow
 positionRowFrom b at =
     record {
@@ -100,7 +102,7 @@ positionRowFrom b at =
       side = u8At b (at + 2);
       kind = u8At b (at + 3);
       flags = u8At b (at + 4);
-      spare = u24At b (at + 5);
+      blocked = u24At b (at + 5);
       q = u32At b (at + 8);
       pe = u32At b (at + 12);
       pb = u32At b (at + 16);
@@ -174,6 +176,7 @@ positionOf r =
       terms = termsOf r;
       flags = flagsOf (r .flags);
       q = r .q;
+      blocked = r .blocked;
       premium = r .premium;
     }
 

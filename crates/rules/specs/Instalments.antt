@@ -7,8 +7,8 @@ use mathlib.Core.Path.{_≡_}
 use lib.Dec.{eqb, ltb}
 use lib.ListN.{length, drop, take}
 use Rattle.rules.specs.File.{Account, accountOf}
-use Rattle.rules.specs.Lines.{leftLines, lineAmount, pairLines, premiums, sumOver, total, totalAfter}
-use Rattle.rules.specs.Pairs.{Made, contractsAfter, pairsAfter}
+use Rattle.rules.specs.Lines.{entriesFor, leftLines, leftWithBlocked, lineAmount, pairLines, premiums, sumOver, total, totalAfter}
+use Rattle.rules.specs.Pairs.{Made, pairsAfter}
 use Rattle.rules.specs.Promises.{LowFactors, OnePathEach, leftQuantity, lineBringsIn, pairQuantity, writtenPayOut}
 use Rattle.rules.specs.Reais.{mostTotal}
 use Rattle.rules.specs.Refusals.{Check, accepted, fileRead, firstFault, meaning}
@@ -51,10 +51,11 @@ beginsWith (x ∷ rest) (y ∷ out) = sameLine x y && beginsWith rest out
 abbrev pub notFirstPairs : Account → List Line → ℕ → Bool
 notFirstPairs a out count = ltb (length (allPairs a)) count || not (beginsWith (firstPairs a count) out)
 
--- After the reading: 12, "list has fewer than p entries", as for the margin; then 18, "checked after 12". Both with row 0.
+-- After the reading: 12, "given below 2 × p entries" (document 02 [9]), as for the margin; then 18, "checked after 12". Both
+-- with row 0.
 abbrev pub instalmentChecks : Account → List Line → ℕ → List Check
 instalmentChecks a out count =
-    (ltb (length out) (a .positions), ListTooShort)
+    (ltb (length out) (entriesFor (a .positions)), ListTooShort)
     ∷ (notFirstPairs a out count, NotFirstPairs)
     ∷ []
 
@@ -151,7 +152,7 @@ pub record AfterAllowances (b : List ℕ) (a : Account) (out : List Line) (n : �
 
 -- "every remainder": the left lines of the rows with contracts left after n pairs. Instalments do not write them.
 abbrev pub remainders : Account → ℕ → List Line
-remainders a n = leftLines a (contractsAfter a n) (a .positions)
+remainders a n = leftLines a (leftWithBlocked a n) (a .positions)
 
 -- What is promised of a half-paired account: of an amount that is answered for a list with `count` pair lines.
 pub record HalfPaired (a : Account) (pairs : List Line) (count amount : ℕ) : Type 0 where
@@ -169,12 +170,14 @@ pub record HalfPaired (a : Account) (pairs : List Line) (count amount : ℕ) : T
   -- the contracts of each row add up to Q: those of the pair lines in the list that name it and those of its remainder
   pub contracts : (r : ℕ) → r < a .positions
       → sumOver (pairQuantity r) pairs + sumOver (leftQuantity r) (remainders a count) ≡ a .positionAt r .q
+  -- and none of a row's blocked contracts is in the pairs (document 02 [9])
+  pub unblocked : (r : ℕ) → r < a .positions → sumOver (pairQuantity r) pairs + a .positionAt r .blocked ≤ a .positionAt r .q
 
--- Of a file: for whatever account its bytes mean, every list of at least p entries (a shorter one is refused with 12) and
+-- Of a file: for whatever account its bytes mean, every list of at least 2 × p entries (a shorter one is refused with 12) and
 -- every list of allowances;
 abbrev pub AllowancesDemand : List ℕ → Type 0
 AllowancesDemand b =
-    (a : Account) → meaning b ≡ accepted a → (out : List Line) → a .positions ≤ length out → (allowances : List ℕ)
+    (a : Account) → meaning b ≡ accepted a → (out : List Line) → entriesFor (a .positions) ≤ length out → (allowances : List ℕ)
     → AfterAllowances b a out (sumOver (λ n. n) allowances) (afterCalls b allowances (begun out))
 
 -- and every list and count for which an amount is answered.

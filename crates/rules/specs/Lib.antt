@@ -19,3 +19,5 @@ pub mod Reais
 pub mod Instalments
 -- Document 02 [8].
 pub mod TakingApart
+-- Document 02 [9].
+pub mod Blocked

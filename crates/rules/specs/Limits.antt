@@ -46,10 +46,13 @@ pub record PositionWithin (s : ℕ) (k : SeriesRow) (r : PositionRow) : Type 0 w
   pub flags-most : r .flags ≤ 31
   pub knocked-in-kind : r .flags % 2 ≡ 1 → (1 ≤ r .kind) × (r .kind ≤ 2)
   pub knocked-out-kind : r .flags / 16 % 2 ≡ 1 → (3 ≤ r .kind) × (r .kind ≤ 4)
-  pub spare-zero : r .spare ≡ 0
+  -- Document 02 [9]: "on a written row they stay zero", the bytes of the number blocked
+  pub blocked-written : r .side ≡ 1 → r .blocked ≡ 0
   -- "Q 1 to 100,000; PE 1 to 10,000,000"
   pub q-least : 1 ≤ r .q
   pub q-most : r .q ≤ 100_000
+  -- Document 02 [9]: "the number blocked, at most Q"
+  pub blocked-most : r .blocked ≤ r .q
   pub pe-least : 1 ≤ r .pe
   pub pe-most : r .pe ≤ 10_000_000
   -- "REB 0 to 10,000,000; unsettled premium 0 to 10,000,000, zero on a written row"

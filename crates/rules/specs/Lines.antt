@@ -1,5 +1,5 @@
 -- Document 01, Pairs: spread amounts, lines and total.
-use Prim.Native.Nat.{ℕ, zero, suc, _+_}
+use Prim.Native.Nat.{ℕ, zero, suc, _+_, _*_}
 use mathlib.Core.Bool.{cond}
 use mathlib.Core.List.{List, [], _∷_, _++_}
 use lib.Dec.{eqb, ltb}
@@ -91,18 +91,28 @@ unfoldable pub leftLines : Account → (ℕ → ℕ) → ℕ → List Line
 leftLines a left zero = []
 leftLines a left (suc r) = leftLines a left r ++ cond (ltb 0 (left r)) (leftLine a r (left r) ∷ []) []
 
+-- The quantity of row r's left line after n rounds of pairing: "The left line of a held row counts blocked ones too" (document
+-- 02 [9]). A written row has none blocked.
+abbrev pub leftWithBlocked : Account → ℕ → ℕ → ℕ
+leftWithBlocked a n r = contractsAfter a n r + a .positionAt r .blocked
+
 -- The lines of an account after n rounds of pairing: the pairs so far, then each row with contracts left.
 abbrev pub linesAfter : Account → ℕ → List Line
-linesAfter a n = pairLines a (pairsAfter a n) ++ leftLines a (contractsAfter a n) (a .positions)
+linesAfter a n = pairLines a (pairsAfter a n) ++ leftLines a (leftWithBlocked a n) (a .positions)
 
 -- "Repeat until no pair is allowed." A pair leaves one of its rows without contracts, so p rounds are always enough: after
 -- them no pair is allowed (`Demand3.unmade`). These are the lines of an account.
 unfoldable pub lines : Account → List Line
 lines a = linesAfter a (a .positions)
 
--- "The line count is at most p" (`LineLaws.line-count`): the most lines of an account.
+-- How many entries a list needs for an account of p positions: "refusal 12 is now given below 2 × p entries" (document 02 [9]).
+-- Of lines "there can be up to 2 × p − 1 .. where p is above 0" (`LineLaws.line-count`).
+abbrev pub entriesFor : ℕ → ℕ
+entriesFor p = 2 * p
+
+-- As many entries are enough for every account.
 abbrev pub mostLines : ℕ
-mostLines = mostPositions
+mostLines = entriesFor mostPositions
 
 -- A line's amount: a pair's is its fifth number, a left row's its fourth.
 abbrev pub lineAmount : Line → ℕ
@@ -135,12 +145,12 @@ totalAfter a n = sumOver lineAmount (linesAfter a n) + premiums a
 unfoldable pub total : Account → ℕ
 total a = totalAfter a (a .positions)
 
--- The answer for a file and a list of n entries: the reading's refusal, then 12, "list has fewer than p entries", with
--- row 0; else the line count and the total.
+-- The answer for a file and a list of n entries: the reading's refusal, then 12, "given below 2 × p entries" (document 02 [9]),
+-- with row 0; else the line count and the total.
 abbrev pub marginForList : List ℕ → ℕ → FileRead → MarginAnswer
 marginForList b n (Refused w i) = NoTotal w i
 marginForList b n (Accepted l) =
-    cond (ltb n (l .positions)) (NoTotal ListTooShort 0)
+    cond (ltb n (entriesFor (l .positions))) (NoTotal ListTooShort 0)
     (Total (length (lines (accountOf b l))) (total (accountOf b l)))
 
 unfoldable pub marginAnswer : List ℕ → ℕ → MarginAnswer

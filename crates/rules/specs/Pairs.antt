@@ -129,11 +129,13 @@ unfoldable pub madeAfter : Book → ℕ → (ℕ → ℕ) → List Made
 madeAfter k zero left = []
 madeAfter k (suc n) left = madeAfter k n left ++ madeBy (leftAfter k n left) (choice k (leftAfter k n left))
 
--- The contracts that pairing may use at the start: Q of each row.
+-- The contracts that pairing may use at the start, of each row: "Pairs use at most Q less the blocked" (document 02 [9]). A
+-- written row has none blocked. So it is for `allowed` too: "for pairing .. a held row has contracts left only while some of
+-- these are unused".
 abbrev pub available : Account → ℕ → ℕ
-available a r = a .positionAt r .q
+available a r = a .positionAt r .q - a .positionAt r .blocked
 
--- The pairs of an account after n rounds, and the contracts then left in each row.
+-- The pairs of an account after n rounds, and the contracts that pairing may then still use in each row.
 abbrev pub pairsAfter : Account → ℕ → List Made
 pairsAfter a n = madeAfter (bookOf a) n (available a)
 

@@ -69,10 +69,11 @@ abbrev pub Contracts : Account → Type 0
 Contracts a =
     (r : ℕ) → r < a .positions → sumOver (pairQuantity r) (lines a) + sumOver (leftQuantity r) (lines a) ≡ a .positionAt r .q
 
--- "with the contracts left in a row being Q less the quantities of the pair lines that name it", which by Contracts are
--- at most Q.
+-- "with the contracts left in a row being Q less the quantities of the pair lines that name it", and by document 02 [9] "in
+-- demand 3's pairs left unmade, a held row has contracts left only while some" of Q less the blocked "are unused". Those
+-- that the pair lines name are at most so many (`Blocked.Unblocked`).
 abbrev pub unpaired : Account → ℕ → ℕ
-unpaired a r = a .positionAt r .q - sumOver (pairQuantity r) (lines a)
+unpaired a r = a .positionAt r .q - a .positionAt r .blocked - sumOver (pairQuantity r) (lines a)
 
 -- "after all pair lines .. no pair is allowed."
 abbrev pub Unmade : Account → Type 0

@@ -2,8 +2,8 @@
 -- payoffs and rebate differences of document 01 that can be negative, C, P, D, R and those of Paths, stand in a maximum with
 -- MM or with 0 there, so that 0 in their place changes nothing. Every other difference takes at most what is there: a
 -- place counted back from a file's end (`File`; a file too short for it is refused, with 1 or 4, before it is looked at),
--- contracts that a pair uses (`Pairs.taken`, `Promises.unpaired`), a bit from 1 (`Day.withFlag1`, `withFlag16`), and the two
--- of `Pairs.strikeDifference`, of which one is 0.
+-- blocked contracts (`Pairs.available`, `Promises.unpaired`), contracts that a pair uses (`Pairs.taken`, `Promises.unpaired`),
+-- a bit from 1 (`Day.withFlag1`, `withFlag16`), and the two of `Pairs.strikeDifference`, of which one is 0.
 use Prim.Native.Nat.{ℕ, _*_}
 use Rattle.rules.specs.declared.Series.{Series}
 

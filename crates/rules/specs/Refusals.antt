@@ -88,17 +88,18 @@ wrongFlags r =
     || (flagsOf (r .flags) .knockedIn && outside 1 2 (r .kind))
     || (flagsOf (r .flags) .knockedOut && outside 3 4 (r .kind))
 
--- 7: "series, side, kind, flags or a spare byte wrong": series below s; side 0 or 1; kind 0 to 4.
+-- 7: "series, side, kind, flags or a spare byte wrong": series below s; side 0 or 1; kind 0 to 4. Document 02 [9], of the bytes
+-- of the number blocked: "on a written row they stay zero under refusal 7".
 abbrev pub wrongTerms : ℕ → PositionRow → Bool
 wrongTerms s r =
     leb s (r .series)
     || ltb 1 (r .side)
     || ltb 4 (r .kind)
     || wrongFlags r
-    || nonzero (r .spare)
+    || (eqb (r .side) 1 && nonzero (r .blocked))
 
 -- 8: "Q, PE, REB or premium wrong": Q 1 to 100,000; PE 1 to 10,000,000; REB 0 to 10,000,000; premium 0 to 10,000,000,
--- "zero on a written row".
+-- "zero on a written row". Document 02 [9], of the number blocked: "A number above Q is refused with 8."
 abbrev pub wrongRange : PositionRow → Bool
 wrongRange r =
     outside 1 100_000 (r .q)
@@ -106,6 +107,7 @@ wrongRange r =
     || ltb 10_000_000 (r .reb)
     || ltb 10_000_000 (r .premium)
     || (eqb (r .side) 1 && nonzero (r .premium))
+    || ltb (r .q) (r .blocked)
 
 -- 9: "PB wrong". "Without the limiter flag PB is 0. With it, a call has PE < PB ≤ 10,000,000 and a put 0 ≤ PB < PE."
 -- The first number is the series' type.

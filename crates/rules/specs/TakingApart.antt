@@ -7,8 +7,7 @@ use lib.Dec.{ltb}
 use lib.ListN.{drop, replicate, take}
 use Rattle.rules.specs.File.{Account, accountOf}
 use Rattle.rules.specs.Instalments.{PairedList, afterCall, instalmentChecks, pairAnswer, pairsTold}
-use Rattle.rules.specs.Lines.{sumOver}
-use Rattle.rules.specs.Pairs.{contractsAfter}
+use Rattle.rules.specs.Lines.{leftWithBlocked, sumOver}
 use Rattle.rules.specs.Promises.{pairQuantity}
 use Rattle.rules.specs.Refusals.{Check, accepted, fileRead, firstFault, meaning}
 use Rattle.rules.specs.declared.ApartAnswer.{ApartAnswer}
@@ -78,7 +77,8 @@ madeWith b k kept = pairsTold (pairAnswer b (kept .list) (kept .count) k)
 abbrev pub backAgain : List ℕ → ℕ → PairedList → PairedList
 backAgain b k kept = afterApart b (madeWith b k kept) (afterCall b k kept)
 
--- "contracts left" in row r: its Q less those that the pair lines in the list took.
+-- "contracts left" in row r: its Q less those that the pair lines in the list took. Blocked ones are among them, as in its left
+-- line (document 02 [9]).
 abbrev pub contractsLeft : Account → PairedList → ℕ → ℕ
 contractsLeft a kept r = a .positionAt r .q - sumOver (pairQuantity r) (take (kept .count) (kept .list))
 
@@ -96,7 +96,7 @@ pub record GoesBack (b : List ℕ) (k : ℕ) (kept back : PairedList) : Type 0 w
       → contractsLeft a back r ≡ contractsLeft a kept r
   -- which, where the pairing is not refused, are those left after as many pairs;
   pub contracts-after : (a : Account) → meaning b ≡ accepted a → (made : ℕ) → pairAnswer b (kept .list) (kept .count) k ≡ Paired made
-      → (r : ℕ) → r < a .positions → contractsLeft a back r ≡ contractsAfter a (kept .count) r
+      → (r : ℕ) → r < a .positions → contractsLeft a back r ≡ leftWithBlocked a (kept .count) r
   -- "pairing again writes the same lines": it answers the same, and list and count are those after the first pairing.
   pub again-told : pairAnswer b (back .list) (back .count) k ≡ pairAnswer b (kept .list) (kept .count) k
   pub again-is : afterCall b k back ≡ afterCall b k kept

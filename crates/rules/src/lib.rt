@@ -22,8 +22,8 @@ pub const MOST_SERIES: usize = 32;
 // The most positions of a file, p.
 pub const MOST_POSITIONS: usize = 256;
 
-// The most lines of an account: "The line count is at most p".
-pub const MOST_LINES: usize = MOST_POSITIONS;
+// The entries of a list that is long enough for every account: as many lines fit into them as an account has at most.
+pub const MOST_LINES: usize = 2 * MOST_POSITIONS;
 
 // A series' type, call or put. (Document 01's "type".)
 pub enum OptionType {
@@ -69,7 +69,7 @@ pub struct PositionRow {
     pub side: u32,
     pub kind: u32,
     pub flags: u32,
-    pub spare: u32,
+    pub blocked: u32,
     pub q: u32,
     pub pe: u32,
     pub pb: u32,
@@ -106,13 +106,15 @@ pub struct Flags {
     pub knockedOut: bool,
 }
 
-// What a position row means. Its terms are as they stand in the row: flag 1 is not applied to them yet.
+// What a position row means. Its terms are as they stand in the row: flag 1 is not applied to them yet. Of its contracts, q,
+// so many are blocked as collateral (document 02, request 9).
 pub struct Position {
     pub series: u32,
     pub side: Side,
     pub terms: Terms,
     pub flags: Flags,
     pub q: u32,
+    pub blocked: u32,
     pub premium: u32,
 }
 

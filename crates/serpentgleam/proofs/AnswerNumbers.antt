@@ -11,7 +11,7 @@ use Rattle.rules.proofs.DayAnswers.{day-done, day-no-series, day-of-refused, da
 use Rattle.rules.proofs.Demand3.{answered}
 use Rattle.rules.specs.Day.{DayWithin, dayAnswer}
 use Rattle.rules.specs.File.{Account}
-use Rattle.rules.specs.Lines.{lines, marginAnswer, premiumAnswer, premiums, total}
+use Rattle.rules.specs.Lines.{entriesFor, lines, marginAnswer, premiumAnswer, premiums, total}
 use Rattle.rules.specs.Refusals.{accepted, meaning, number, refused}
 use Rattle.rules.specs.declared.Day.{Day}
 use Rattle.rules.specs.declared.DayAnswer.{DayAnswer}
@@ -22,13 +22,13 @@ use Rattle.serpentgleam.specs.DayNumbers.{dayNumbers}
 use Rattle.serpentgleam.specs.MarginNumbers.{answerNumbers, marginNumbers}
 
 module _ (b : List ℕ) (n : ℕ) where
-  -- An accepted file and a list of at least p entries: refusal 0, row 0, the line count and the total.
-  pub accepted-numbers : (a : Account) → meaning b ≡ accepted a → a .positions ≤ n
+  -- An accepted file and a list of at least 2 × p entries: refusal 0, row 0, the line count and the total.
+  pub accepted-numbers : (a : Account) → meaning b ≡ accepted a → entriesFor (a .positions) ≤ n
       → marginNumbers (marginAnswer b n) ≡ record { refusal = 0; row = 0; lines = length (lines a); total = total a }
   accepted-numbers a e long = ap marginNumbers (margin-accepted b a e n long)
 
   -- An accepted file and a shorter list: 12, and nothing else.
-  pub short-numbers : (a : Account) → meaning b ≡ accepted a → n < a .positions
+  pub short-numbers : (a : Account) → meaning b ≡ accepted a → n < entriesFor (a .positions)
       → marginNumbers (marginAnswer b n) ≡ record { refusal = 12; row = 0; lines = 0; total = 0 }
   short-numbers a e short = ap marginNumbers (margin-short b a e n short)
 
@@ -39,11 +39,11 @@ module _ (b : List ℕ) (n : ℕ) where
       let r = margin-refused b k row e n in
       ap marginNumbers (r .2) ∙ ap (λ (x : ℕ). record { refusal = x; row = row; lines = 0; total = 0 }) (r .1)
 
-  -- The other way round: refusal 0 is given only where the file is accepted and the list has at least p entries.
-  pub no-refusal : marginNumbers (marginAnswer b n) .refusal ≡ 0 → (a : Account) × (meaning b ≡ accepted a) × (a .positions ≤ n)
+  -- The other way round: refusal 0 is given only where the file is accepted and the list has at least 2 × p entries.
+  pub no-refusal : marginNumbers (marginAnswer b n) .refusal ≡ 0 → (a : Account) × (meaning b ≡ accepted a) × (entriesFor (a .positions) ≤ n)
   no-refusal z = go (marginAnswer b n) refl
     where
-      go : (x : MarginAnswer) → marginAnswer b n ≡ x → (a : Account) × (meaning b ≡ accepted a) × (a .positions ≤ n)
+      go : (x : MarginAnswer) → marginAnswer b n ≡ x → (a : Account) × (meaning b ≡ accepted a) × (entriesFor (a .positions) ≤ n)
       go (Total count sum) e =
           let k = answered b n count sum e in
           (k .0, k .1, room-enough b (k .0) (k .1) n count sum e)

@@ -17,7 +17,7 @@ use Rattle.lent.proofs.EntryLaws.{written-none}
 use Rattle.lent.proofs.ZeroLines.{zeros-written}
 use Rattle.lent.proofs.Zeros.{zeros, zeros-length}
 use Rattle.lent.specs.Entries.{entriesWritten}
-use Rattle.lines.specs.LineNumbers.{linesFrom, numbersPerLine}
+use Rattle.lines.specs.LineNumbers.{linesFrom, mostPairNumbers, numbersPerLine}
 use Rattle.rules.proofs.ApartLaws.{apart-read, fault-19, fault-alike, fault-no-19}
 use Rattle.rules.proofs.ApartLists.{apart-leaves, apart-parts, left-count}
 use Rattle.rules.specs.File.{Account, accountOf}
@@ -91,9 +91,9 @@ module _ (b : List ℕ) (ys : List Line) (count k : ℕ) (numbers : List ℕ) (r
 
   module _ (kept : ℕ) (e′ : kept ≡ keptOf answer there) where
     -- The lines that stay are the first of those compared, which are in the list and in the zeros.
-    pub apart-fit : (kept ≤ there) × (there ≤ length ys) × (numbersPerLine * there ≤ length zeros)
+    pub apart-fit : (kept ≤ there) × (there ≤ length ys) × (numbersPerLine * there ≤ length (zeros mostPairNumbers))
     apart-fit =
-        (go answer refl, omega (arith, e, ready .order, ready .reach-most), omega (arith, e, ready .order, ready .reach-small, zeros-length))
+        (go answer refl, omega (arith, e, ready .order, ready .reach-most), omega (arith, e, ready .order, ready .reach-small, zeros-length mostPairNumbers))
       where
         go : (x : ApartAnswer) → answer ≡ x → kept ≤ there
         go (NotTakenApart w i) t = let all : kept ≡ there = e′ ∙ ap (λ (x : ApartAnswer). keptOf x there) t in omega (arith, all)
@@ -101,18 +101,18 @@ module _ (b : List ℕ) (ys : List Line) (count k : ℕ) (numbers : List ℕ) (r
             let is-left : kept ≡ left = e′ ∙ ap (λ (x : ApartAnswer). keptOf x there) t in
             omega (arith, is-left, there-is left t, left-count b ys count k left (sym apart-is ∙ t))
 
-    pub apart-written : entriesWritten zeros kept there ys ≡ listApart b ys count k
+    pub apart-written : entriesWritten (zeros mostPairNumbers) kept there ys ≡ listApart b ys count k
     apart-written = go answer refl
       where
-        go : (x : ApartAnswer) → answer ≡ x → entriesWritten zeros kept there ys ≡ listApart b ys count k
+        go : (x : ApartAnswer) → answer ≡ x → entriesWritten (zeros mostPairNumbers) kept there ys ≡ listApart b ys count k
         go (NotTakenApart w i) t =
-            ap (λ (n : ℕ). entriesWritten zeros n there ys) (e′ ∙ ap (λ (x : ApartAnswer). keptOf x there) t)
-            ∙ written-none zeros there ys
+            ap (λ (n : ℕ). entriesWritten (zeros mostPairNumbers) n there ys) (e′ ∙ ap (λ (x : ApartAnswer). keptOf x there) t)
+            ∙ written-none (zeros mostPairNumbers) there ys
             ∙ sym (apart-leaves b ys count k w i (sym apart-is ∙ t))
         go (TakenApart left) t =
             let few = left-count b ys count k left (sym apart-is ∙ t) in
             let removed : count - left ≡ k = omega (arith, few) in
-            ap₂ (λ (m n : ℕ). entriesWritten zeros m n ys) (e′ ∙ ap (λ (x : ApartAnswer). keptOf x there) t) (there-is left t)
-            ∙ zeros-written left count ys (omega (arith, few))
+            ap₂ (λ (m n : ℕ). entriesWritten (zeros mostPairNumbers) m n ys) (e′ ∙ ap (λ (x : ApartAnswer). keptOf x there) t) (there-is left t)
+            ∙ zeros-written mostPairNumbers left count ys (omega (arith, few))
             ∙ ap (λ (n : ℕ). take left ys ++ (zeroEntries n ++ drop count ys)) removed
             ∙ sym (apart-parts b ys count k left (sym apart-is ∙ t))

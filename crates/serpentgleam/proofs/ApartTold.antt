@@ -10,6 +10,7 @@ use Rattle.rules.proofs.Answers.{number-range}
 use Rattle.rules.proofs.ApartAnswers.{apart-18, apart-19, apart-accepted, apart-goes, apart-only, apart-refused, apart-short}
 use Rattle.rules.proofs.InstalmentAnswers.{FirstPairs}
 use Rattle.rules.specs.File.{Account}
+use Rattle.rules.specs.Lines.{entriesFor}
 use Rattle.rules.specs.Refusals.{accepted, meaning, number, refused}
 use Rattle.rules.specs.TakingApart.{apartAnswer}
 use Rattle.rules.specs.declared.ApartAnswer.{ApartAnswer}
@@ -27,28 +28,28 @@ module _ (b : List ℕ) (out : List Line) (count k : ℕ) where
 
   module _ (a : Account) (e : meaning b ≡ accepted a) where
     -- An accepted file and a list of fewer than p entries: 12.
-    pub short-apart : length out < a .positions → apartNumbers (apartAnswer b out count k) ≡ record { refusal = 12; row = 0; value = 0 }
+    pub short-apart : length out < entriesFor (a .positions) → apartNumbers (apartAnswer b out count k) ≡ record { refusal = 12; row = 0; value = 0 }
     short-apart short = ap apartNumbers (apart-short b a e out count short k)
 
-    -- A list of at least p entries whose first lines are not the account's first pairs: 18.
-    pub other-apart : a .positions ≤ length out → (FirstPairs a out count → ⊥)
+    -- A list of at least 2 × p entries whose first lines are not the account's first pairs: 18.
+    pub other-apart : entriesFor (a .positions) ≤ length out → (FirstPairs a out count → ⊥)
         → apartNumbers (apartAnswer b out count k) ≡ record { refusal = 18; row = 0; value = 0 }
     other-apart long wrong = ap apartNumbers (apart-18 b a e out count long wrong k)
 
     -- More to take apart than there are: 19.
-    pub above-apart : a .positions ≤ length out → FirstPairs a out count → count < k
+    pub above-apart : entriesFor (a .positions) ≤ length out → FirstPairs a out count → count < k
         → apartNumbers (apartAnswer b out count k) ≡ record { refusal = 19; row = 0; value = 0 }
     above-apart long f h = ap apartNumbers (apart-19 b a e out count long f k h)
 
     -- Else the new count.
-    pub left-apart : a .positions ≤ length out → FirstPairs a out count → k ≤ count
+    pub left-apart : entriesFor (a .positions) ≤ length out → FirstPairs a out count → k ≤ count
         → apartNumbers (apartAnswer b out count k) ≡ record { refusal = 0; row = 0; value = count - k }
     left-apart long f h = ap apartNumbers (apart-goes b a e out count long f k h)
 
-  -- The other way round: refusal 0 is given only where the file is accepted, the list has at least p entries, the first pairs
+  -- The other way round: refusal 0 is given only where the file is accepted, the list has at least 2 × p entries, the first pairs
   -- stand in it, and there are k of them.
   abbrev Goes : Type 0
-  Goes = (a : Account) × (meaning b ≡ accepted a) × (a .positions ≤ length out) × FirstPairs a out count × (k ≤ count)
+  Goes = (a : Account) × (meaning b ≡ accepted a) × (entriesFor (a .positions) ≤ length out) × FirstPairs a out count × (k ≤ count)
 
   pub no-apart-refusal : apartNumbers (apartAnswer b out count k) .refusal ≡ 0 → Goes
   no-apart-refusal z = go (apartAnswer b out count k) refl

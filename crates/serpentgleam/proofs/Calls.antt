@@ -16,7 +16,7 @@ use Rattle.serpentgleam.specs.MarginNumbers.{marginNumbers}
 use Rattle.serpentgleam.specs.declared.Margin.{Margin}
 use Rattle.lent.proofs.Calling.{calls-plain}
 use Rattle.lent.proofs.NumbersCall.{File, Lent, calls-lending}
-use Rattle.lent.proofs.Zeros.{array, array-slice}
+use Rattle.lent.proofs.Zeros.{array, array-slice, numbers-room}
 use Rattle.rules.proofs.MarginAnswer as E
 use Rattle.rules.proofs.MarginAnswer.Laws as E′
 use Rattle.serpentgleam.proofs.Margin as N
@@ -70,11 +70,11 @@ module _ {M : Type 1} (𝓤 : URA M) (H : Heap 𝓤) (A : Atoms 𝓤) (W : Given
   args δ = (f, (room, (array l δ numbers, tt)))
 
   abbrev to-settle : ℕ → GName → Settle 𝓤 H A mem run .Ghost
-  to-settle ν δ = (((κ, (ν ∷ [], tt)), (p, (fullShare, tt)), tt, args δ, (s ∷ [], (vint w64 room ∷ [], (array-slice l ∷ [], tt)))), tt)
+  to-settle ν δ = (((κ, (ν ∷ [], tt)), (p, (fullShare, tt)), tt, args δ, (s ∷ [], (vint w64 room ∷ [], (array-slice mostNumbers l ∷ [], tt)))), tt)
 
-  goes-settle : (ν : ℕ) (δ : GName) → ent 𝓤 (⋆ 𝓤 H A (‵ (flft κ p) ∷ ‵ (flft (ν ∷ []) fullShare) ∷ (‵ (Lent l numbers ν δ) ⊛ ‵ (File κ f)) ∷ [])) (Settle 𝓤 H A mem run .pre (to-settle ν δ))
+  goes-settle : (ν : ℕ) (δ : GName) → ent 𝓤 (⋆ 𝓤 H A (‵ (flft κ p) ∷ ‵ (flft (ν ∷ []) fullShare) ∷ (‵ (Lent mostNumbers l numbers ν δ) ⊛ ‵ (File κ f)) ∷ [])) (Settle 𝓤 H A mem run .pre (to-settle ν δ))
   goes-settle ν δ =
-      qed W (‵ (flft κ p) ∷ ‵ (flft (ν ∷ []) fullShare) ∷ (‵ (Lent l numbers ν δ) ⊛ ‵ (File κ f)) ∷ []) ∵ says ! long $ nothing ! $ move ! (2 ∷ 0 ∷ []) $ join ! $ move ! (1 ∷ 0 ∷ []) $ join ! $ frame ! $ split ! $
+      qed W (‵ (flft κ p) ∷ ‵ (flft (ν ∷ []) fullShare) ∷ (‵ (Lent mostNumbers l numbers ν δ) ⊛ ‵ (File κ f)) ∷ []) ∵ says ! long $ nothing ! $ move ! (2 ∷ 0 ∷ []) $ join ! $ move ! (1 ∷ 0 ∷ []) $ join ! $ frame ! $ split ! $
       nothing ! $ move ! (1 ∷ 0 ∷ []) $ fjoin ! $ owned ! usize (Is usize) (uint-makes 𝓤 H A W w64) room _ (refl, room-fits) $ fjoin ! $ move ! (1 ∷ 0 ∷ []) $ fjoin ! $ done !
 
   -- the last values of its arguments, and of them the numbers
@@ -91,5 +91,5 @@ module _ {M : Type 1} (𝓤 : URA M) (H : Heap 𝓤) (A : Atoms 𝓤) (W : Given
         → ((w : Val) (r : MarginAnswer) (vs : List ℕ) → Settled (f .now) room vs r → Is E.the-row r (w ∷ []) → Seq K W (i ∷ j ∷ ‵ (row u64 fullShare vs l 0) ∷ ‵ (flft κ p) ∷ ‵ (File κ f) ∷ Γ) (lands C Λ En d w rest q))
         → Seq K W (i ∷ j ∷ ‵ (row u64 fullShare numbers l 0) ∷ ‵ (flft κ p) ∷ ‵ (File κ f) ∷ Γ) (runs C Λ En (seq (call #lines-and-total·settle xs d) rest) q)
     calls-settle t fm known =
-        calls-lending 𝓤 H A W κ p f l numbers long t fm (Settle 𝓤 H A mem run) known to-settle goes-settle E.the-row
+        calls-lending 𝓤 H A W κ p f l mostNumbers numbers-room numbers long t fm (Settle 𝓤 H A mem run) known to-settle goes-settle E.the-row
         (λ ν δ (vs : Last). lasts settle.ended (κ, (ν ∷ [], tt)) (args δ) vs) (λ (vs : Last). vs .1 .1 .0) (λ (r : MarginAnswer) (vs : List ℕ). Settled (f .now) room vs r) (λ ν δ w. id⊢ 𝓤 _) last-settle

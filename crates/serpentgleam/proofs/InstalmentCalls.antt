@@ -5,13 +5,13 @@
 --     calls-after       `lines_after`
 --     calls-told       `told`
 -- `agree` and `write_entries` are in crate `lent` (`AgreeCall.antt`, `WriteCall.antt`).
-use Rattle.lent.proofs.Walk.{_≡_, refl, Bool, ℕ, _<_, _^_, [], _∷_, List, length, URA, fullShare, w64, Val, vint, vbool, SProp, ent, id⊢, emp, Lft, Share, GName, flft, flent, Memory, Routine, Heap, Env, Calls, Loops, Atoms, Fun, Ends, lands, Given, Item, runs, ‵, raw, _⊛_, ⋆, _$_, _∵_, !, qed, move, split, join, fsplit, fjoin, feqI, frame, done, drop, feqL, Seq, FmC, Is, uint-makes, usize, u64, RefT, sliceVal, finally, Held, row, owned, nothing, tripleOf, Contract, Triple, lasts, says}
+use Rattle.lent.proofs.Walk.{_≡_, refl, _∙_, Bool, ℕ, _<_, _^_, [], _∷_, List, length, URA, fullShare, w64, Val, vint, vbool, SProp, ent, id⊢, emp, Lft, Share, GName, flft, flent, Memory, Routine, Heap, Env, Calls, Loops, Atoms, Fun, Ends, lands, Given, Item, runs, ‵, raw, _⊛_, ⋆, _$_, _∵_, !, qed, move, split, join, fsplit, fjoin, feqI, frame, done, drop, feqL, Seq, FmC, Is, uint-makes, usize, u64, RefT, sliceVal, Room, finally, Held, row, owned, nothing, tripleOf, Contract, Triple, lasts, says}
 use mir.Syntax.{Place, Opd as Operand, Body, seq, call}
 use types.Run.{Opds}
 use denote.Enum.Laws as EL
 use Rattle.instalments.specs.Ready.{AmountReady, PairsReady, end, start}
 use Rattle.instalments.specs.declared.CallLines.{CallLines}
-use Rattle.lines.specs.LineNumbers.{mostNumbers}
+use Rattle.lines.specs.LineNumbers.{mostNumbers, mostPairNumbers}
 use Rattle.serpentgleam.specs.InstalmentNumbers.{toldNumbers}
 use Rattle.serpentgleam.specs.declared.Answer.{Answer}
 use Rattle.lent.proofs.Calling.{calls-plain}
@@ -83,9 +83,10 @@ module _ {M : Type 1} (𝓤 : URA M) (H : Heap 𝓤) (A : Atoms 𝓤) (W : Given
         → ((v : Val) (m : Answer) → m ≡ toldNumbers r same → Is N.the-row m (v ∷ []) → Seq K W Γ (lands C Λ En d v rest q)) → Seq K W Γ (runs C Λ En (seq (call #serpentgleam·told xs d) rest) q)
     calls-told t same fm known = calls-plain t fm (Told 𝓤 H A mem run) known (to-told same) (goes-told same) N.the-row (lasts told.ended tt (r, (same, tt))) (λ (m : Answer). m ≡ toldNumbers r same) (λ _. id⊢ 𝓤 _)
 
--- `next_pairs` and `amount_after` of the file f, for a list of `room` entries, with the numbers in the block l.
+-- `next_pairs` and `amount_after` of the file f, for a list of `room` entries, with the numbers in the block l, of which there are
+-- as many as the callee asks for.
 module _ {M : Type 1} (𝓤 : URA M) (H : Heap 𝓤) (A : Atoms 𝓤) (W : Given 𝓤 H A) (mem : Memory → SProp 𝓤) (run : Routine → Fun 𝓤) (κ : Lft) (p : Share) (f : RefT (List ℕ)) (room count : ℕ) (room-fits : room < 2 ^ 64) (count-fits : count < 2 ^ 64)
-    (l : ℕ) (numbers : List ℕ) (long : length numbers ≡ mostNumbers) where
+    (l : ℕ) (size : ℕ) (lendable : Room u64 size) (numbers : List ℕ) (long : length numbers ≡ size) where
   abbrev s : Val
   s = sliceVal (f .ptr) (length (f .now))
 
@@ -93,11 +94,11 @@ module _ {M : Type 1} (𝓤 : URA M) (H : Heap 𝓤) (A : Atoms 𝓤) (W : Given
   args allowance δ = (f, (room, (count, (allowance, (array l δ numbers, tt)))))
 
   abbrev to-next : ℕ → ℕ → GName → NextPairs 𝓤 H A mem run .Ghost
-  to-next allowance ν δ = (((κ, (ν ∷ [], tt)), (p, (fullShare, tt)), tt, args allowance δ, (s ∷ [], (vint w64 room ∷ [], (vint w64 count ∷ [], (vint w64 allowance ∷ [], (array-slice l ∷ [], tt)))))), tt)
+  to-next allowance ν δ = (((κ, (ν ∷ [], tt)), (p, (fullShare, tt)), tt, args allowance δ, (s ∷ [], (vint w64 room ∷ [], (vint w64 count ∷ [], (vint w64 allowance ∷ [], (array-slice size l ∷ [], tt)))))), tt)
 
-  goes-next : (allowance : ℕ) → allowance < 2 ^ 64 → (ν : ℕ) (δ : GName) → ent 𝓤 (⋆ 𝓤 H A (‵ (flft κ p) ∷ ‵ (flft (ν ∷ []) fullShare) ∷ (‵ (Lent l numbers ν δ) ⊛ ‵ (File κ f)) ∷ [])) (NextPairs 𝓤 H A mem run .pre (to-next allowance ν δ))
-  goes-next allowance fits ν δ =
-      qed W (‵ (flft κ p) ∷ ‵ (flft (ν ∷ []) fullShare) ∷ (‵ (Lent l numbers ν δ) ⊛ ‵ (File κ f)) ∷ []) ∵ says ! long $ nothing ! $ move ! (2 ∷ 0 ∷ []) $ join ! $ move ! (1 ∷ 0 ∷ []) $ join ! $ frame ! $ split ! $
+  goes-next : size ≡ mostPairNumbers → (allowance : ℕ) → allowance < 2 ^ 64 → (ν : ℕ) (δ : GName) → ent 𝓤 (⋆ 𝓤 H A (‵ (flft κ p) ∷ ‵ (flft (ν ∷ []) fullShare) ∷ (‵ (Lent size l numbers ν δ) ⊛ ‵ (File κ f)) ∷ [])) (NextPairs 𝓤 H A mem run .pre (to-next allowance ν δ))
+  goes-next asked allowance fits ν δ =
+      qed W (‵ (flft κ p) ∷ ‵ (flft (ν ∷ []) fullShare) ∷ (‵ (Lent size l numbers ν δ) ⊛ ‵ (File κ f)) ∷ []) ∵ says ! (long ∙ asked) $ nothing ! $ move ! (2 ∷ 0 ∷ []) $ join ! $ move ! (1 ∷ 0 ∷ []) $ join ! $ frame ! $ split ! $
       nothing ! $ move ! (1 ∷ 0 ∷ []) $ fjoin ! $ owned ! u64 (Is u64) (uint-makes 𝓤 H A W w64) allowance _ (refl, fits) $ fjoin ! $ owned ! u64 (Is u64) (uint-makes 𝓤 H A W w64) count _ (refl, count-fits) $ fjoin ! $
       owned ! usize (Is usize) (uint-makes 𝓤 H A W w64) room _ (refl, room-fits) $ fjoin ! $ move ! (1 ∷ 0 ∷ []) $ fjoin ! $ done !
 
@@ -113,11 +114,11 @@ module _ {M : Type 1} (𝓤 : URA M) (H : Heap 𝓤) (A : Atoms 𝓤) (W : Given
   args-amount δ = (f, (room, (count, (array l δ numbers, tt))))
 
   abbrev to-amount : ℕ → GName → AmountAfter 𝓤 H A mem run .Ghost
-  to-amount ν δ = (((κ, (ν ∷ [], tt)), (p, (fullShare, tt)), tt, args-amount δ, (s ∷ [], (vint w64 room ∷ [], (vint w64 count ∷ [], (array-slice l ∷ [], tt))))), tt)
+  to-amount ν δ = (((κ, (ν ∷ [], tt)), (p, (fullShare, tt)), tt, args-amount δ, (s ∷ [], (vint w64 room ∷ [], (vint w64 count ∷ [], (array-slice size l ∷ [], tt))))), tt)
 
-  goes-amount : (ν : ℕ) (δ : GName) → ent 𝓤 (⋆ 𝓤 H A (‵ (flft κ p) ∷ ‵ (flft (ν ∷ []) fullShare) ∷ (‵ (Lent l numbers ν δ) ⊛ ‵ (File κ f)) ∷ [])) (AmountAfter 𝓤 H A mem run .pre (to-amount ν δ))
-  goes-amount ν δ =
-      qed W (‵ (flft κ p) ∷ ‵ (flft (ν ∷ []) fullShare) ∷ (‵ (Lent l numbers ν δ) ⊛ ‵ (File κ f)) ∷ []) ∵ says ! long $ nothing ! $ move ! (2 ∷ 0 ∷ []) $ join ! $ move ! (1 ∷ 0 ∷ []) $ join ! $ frame ! $ split ! $
+  goes-amount : size ≡ mostNumbers → (ν : ℕ) (δ : GName) → ent 𝓤 (⋆ 𝓤 H A (‵ (flft κ p) ∷ ‵ (flft (ν ∷ []) fullShare) ∷ (‵ (Lent size l numbers ν δ) ⊛ ‵ (File κ f)) ∷ [])) (AmountAfter 𝓤 H A mem run .pre (to-amount ν δ))
+  goes-amount asked ν δ =
+      qed W (‵ (flft κ p) ∷ ‵ (flft (ν ∷ []) fullShare) ∷ (‵ (Lent size l numbers ν δ) ⊛ ‵ (File κ f)) ∷ []) ∵ says ! (long ∙ asked) $ nothing ! $ move ! (2 ∷ 0 ∷ []) $ join ! $ move ! (1 ∷ 0 ∷ []) $ join ! $ frame ! $ split ! $
       nothing ! $ move ! (1 ∷ 0 ∷ []) $ fjoin ! $ owned ! u64 (Is u64) (uint-makes 𝓤 H A W w64) count _ (refl, count-fits) $ fjoin ! $ owned ! usize (Is usize) (uint-makes 𝓤 H A W w64) room _ (refl, room-fits) $ fjoin ! $ move ! (1 ∷ 0 ∷ []) $ fjoin ! $ done !
 
   abbrev LastAmount : Type 0
@@ -128,18 +129,18 @@ module _ {M : Type 1} (𝓤 : URA M) (H : Heap 𝓤) (A : Atoms 𝓤) (W : Given
       qed W (‵ (lasts amount-after.ended (κ, (ν ∷ [], tt)) (args-amount δ) vs) ∷ []) ∵ fsplit ! $ drop ! $ fsplit ! $ drop ! $ fsplit ! $ drop ! $ fsplit ! $ fsplit ! $ move ! (1 ∷ []) $ feqL ! (λ len. move ! (1 ∷ []) $ drop ! $ done !)
 
   module _ {K : Type 0} {i j : Item 𝓤} {Γ : List (Item 𝓤)} {En : Env 𝓤 H} {C : Calls 𝓤 H} {Λ : Loops 𝓤 H} {q : Ends 𝓤 H} {xs : List Operand} {d : Place} {rest : Body} where
-    pub calls-next : K → (allowance : ℕ) (fits : allowance < 2 ^ 64) → FmC 𝓤 H (W .laws) C → Triple 𝓤 (C #instalments·next-pairs) (NextPairs 𝓤 H A mem run)
+    pub calls-next : K → size ≡ mostPairNumbers → (allowance : ℕ) (fits : allowance < 2 ^ 64) → FmC 𝓤 H (W .laws) C → Triple 𝓤 (C #instalments·next-pairs) (NextPairs 𝓤 H A mem run)
         → ((ν : ℕ) (δ : GName) → Opds K W (raw (NextPairs 𝓤 H A mem run .pre (to-next allowance ν δ)) ∷ ‵ (flent (ν ∷ []) (Held u64 (length numbers) l 0 δ)) ∷ i ∷ j ∷ ‵ (File κ f) ∷ Γ) En xs (NextPairs 𝓤 H A mem run .args (to-next allowance ν δ)))
         → ((w : Val) (r : CallLines) (vs : List ℕ) → PairsReady (f .now) room count allowance vs r → Is E.the-row r (w ∷ []) → Seq K W (i ∷ j ∷ ‵ (row u64 fullShare vs l 0) ∷ ‵ (flft κ p) ∷ ‵ (File κ f) ∷ Γ) (lands C Λ En d w rest q))
         → Seq K W (i ∷ j ∷ ‵ (row u64 fullShare numbers l 0) ∷ ‵ (flft κ p) ∷ ‵ (File κ f) ∷ Γ) (runs C Λ En (seq (call #instalments·next-pairs xs d) rest) q)
-    calls-next t allowance fits fm known =
-        calls-lending 𝓤 H A W κ p f l numbers long t fm (NextPairs 𝓤 H A mem run) known (to-next allowance) (goes-next allowance fits) E.the-row
+    calls-next t asked allowance fits fm known =
+        calls-lending 𝓤 H A W κ p f l size lendable numbers long t fm (NextPairs 𝓤 H A mem run) known (to-next allowance) (goes-next asked allowance fits) E.the-row
         (λ ν δ (vs : LastNext). lasts next-pairs.ended (κ, (ν ∷ [], tt)) (args allowance δ) vs) (λ (vs : LastNext). vs .1 .1 .1 .1 .0) (λ (r : CallLines) (vs : List ℕ). PairsReady (f .now) room count allowance vs r) (λ ν δ w. id⊢ 𝓤 _) (last-next allowance)
 
-    pub calls-amount : K → FmC 𝓤 H (W .laws) C → Triple 𝓤 (C #instalments·amount-after) (AmountAfter 𝓤 H A mem run)
+    pub calls-amount : K → size ≡ mostNumbers → FmC 𝓤 H (W .laws) C → Triple 𝓤 (C #instalments·amount-after) (AmountAfter 𝓤 H A mem run)
         → ((ν : ℕ) (δ : GName) → Opds K W (raw (AmountAfter 𝓤 H A mem run .pre (to-amount ν δ)) ∷ ‵ (flent (ν ∷ []) (Held u64 (length numbers) l 0 δ)) ∷ i ∷ j ∷ ‵ (File κ f) ∷ Γ) En xs (AmountAfter 𝓤 H A mem run .args (to-amount ν δ)))
         → ((w : Val) (r : CallLines) (vs : List ℕ) → AmountReady (f .now) room count vs r → Is E.the-row r (w ∷ []) → Seq K W (i ∷ j ∷ ‵ (row u64 fullShare vs l 0) ∷ ‵ (flft κ p) ∷ ‵ (File κ f) ∷ Γ) (lands C Λ En d w rest q))
         → Seq K W (i ∷ j ∷ ‵ (row u64 fullShare numbers l 0) ∷ ‵ (flft κ p) ∷ ‵ (File κ f) ∷ Γ) (runs C Λ En (seq (call #instalments·amount-after xs d) rest) q)
-    calls-amount t fm known =
-        calls-lending 𝓤 H A W κ p f l numbers long t fm (AmountAfter 𝓤 H A mem run) known to-amount goes-amount E.the-row
+    calls-amount t asked fm known =
+        calls-lending 𝓤 H A W κ p f l size lendable numbers long t fm (AmountAfter 𝓤 H A mem run) known to-amount (goes-amount asked) E.the-row
         (λ ν δ (vs : LastAmount). lasts amount-after.ended (κ, (ν ∷ [], tt)) (args-amount δ) vs) (λ (vs : LastAmount). vs .1 .1 .1 .0) (λ (r : CallLines) (vs : List ℕ). AmountReady (f .now) room count vs r) (λ ν δ w. id⊢ 𝓤 _) last-amount

@@ -10,7 +10,7 @@ use Rattle.rules.proofs.Answers.{number-range}
 use Rattle.rules.proofs.InstalmentAnswers.{FirstPairs, pair-18, pair-accepted, pair-goes, pair-only, pair-refused, pair-short, so-far-18, so-far-accepted, so-far-goes, so-far-only, so-far-refused, so-far-short}
 use Rattle.rules.specs.File.{Account}
 use Rattle.rules.specs.Instalments.{amountSoFar, madeOf, pairAnswer}
-use Rattle.rules.specs.Lines.{totalAfter}
+use Rattle.rules.specs.Lines.{entriesFor, totalAfter}
 use Rattle.rules.specs.Refusals.{accepted, meaning, number, refused}
 use Rattle.rules.specs.declared.AmountAnswer.{AmountAnswer}
 use Rattle.rules.specs.declared.AmountAnswer.the-variants.{Amount, NoAmount}
@@ -36,35 +36,35 @@ module _ (b : List ℕ) (out : List Line) (count : ℕ) where
 
   module _ (a : Account) (e : meaning b ≡ accepted a) where
     -- An accepted file and a list of fewer than p entries: 12.
-    pub short-pairs : length out < a .positions → (allowance : ℕ)
+    pub short-pairs : length out < entriesFor (a .positions) → (allowance : ℕ)
         → pairNumbers (pairAnswer b out count allowance) ≡ record { refusal = 12; row = 0; value = 0 }
     short-pairs short allowance = ap pairNumbers (pair-short b a e out count short allowance)
 
-    pub short-so-far : length out < a .positions → answerNumbers (amountSoFar b out count) ≡ record { refusal = 12; row = 0; value = 0 }
+    pub short-so-far : length out < entriesFor (a .positions) → answerNumbers (amountSoFar b out count) ≡ record { refusal = 12; row = 0; value = 0 }
     short-so-far short = ap answerNumbers (so-far-short b a e out count short)
 
-    -- A list of at least p entries whose first lines are not the account's first pairs: 18.
-    pub other-pairs : a .positions ≤ length out → (FirstPairs a out count → ⊥) → (allowance : ℕ)
+    -- A list of at least 2 × p entries whose first lines are not the account's first pairs: 18.
+    pub other-pairs : entriesFor (a .positions) ≤ length out → (FirstPairs a out count → ⊥) → (allowance : ℕ)
         → pairNumbers (pairAnswer b out count allowance) ≡ record { refusal = 18; row = 0; value = 0 }
     other-pairs long wrong allowance = ap pairNumbers (pair-18 b a e out count long wrong allowance)
 
-    pub other-so-far : a .positions ≤ length out → (FirstPairs a out count → ⊥)
+    pub other-so-far : entriesFor (a .positions) ≤ length out → (FirstPairs a out count → ⊥)
         → answerNumbers (amountSoFar b out count) ≡ record { refusal = 18; row = 0; value = 0 }
     other-so-far long wrong = ap answerNumbers (so-far-18 b a e out count long wrong)
 
     -- Else the pairs made, and the amount after the pairs that there are.
-    pub made-pairs : a .positions ≤ length out → FirstPairs a out count → (allowance : ℕ)
+    pub made-pairs : entriesFor (a .positions) ≤ length out → FirstPairs a out count → (allowance : ℕ)
         → pairNumbers (pairAnswer b out count allowance) ≡ record { refusal = 0; row = 0; value = madeOf a count allowance }
     made-pairs long f allowance = ap pairNumbers (pair-goes b a e out count long f allowance)
 
-    pub told-so-far : a .positions ≤ length out → FirstPairs a out count
+    pub told-so-far : entriesFor (a .positions) ≤ length out → FirstPairs a out count
         → answerNumbers (amountSoFar b out count) ≡ record { refusal = 0; row = 0; value = totalAfter a count }
     told-so-far long f = ap answerNumbers (so-far-goes b a e out count long f)
 
-  -- The other way round: refusal 0 is given only where the file is accepted, the list has at least p entries and the first
+  -- The other way round: refusal 0 is given only where the file is accepted, the list has at least 2 × p entries and the first
   -- pairs stand in it.
   abbrev Goes : Type 0
-  Goes = (a : Account) × (meaning b ≡ accepted a) × (a .positions ≤ length out) × FirstPairs a out count
+  Goes = (a : Account) × (meaning b ≡ accepted a) × (entriesFor (a .positions) ≤ length out) × FirstPairs a out count
 
   pub no-pair-refusal : (allowance : ℕ) → pairNumbers (pairAnswer b out count allowance) .refusal ≡ 0 → Goes
   no-pair-refusal allowance z = go (pairAnswer b out count allowance) refl

@@ -18,12 +18,13 @@ use Rattle.instalments.specs.declared.CallLines.the-variants.{Lines, NoLines}
 use Rattle.lent.proofs.EntryLaws.{written-none}
 use Rattle.lent.specs.Entries.{entriesWritten}
 use Rattle.lines.proofs.LinesHeld.{take-lines}
-use Rattle.lines.specs.LineNumbers.{linesFrom, numbersPerLine}
+use Rattle.lines.specs.LineNumbers.{linesFrom, mostNumbers, mostPairNumbers, numbersPerLine}
 use Rattle.rules.proofs.InstalmentAnswers.{first-length, first-more}
 use Rattle.rules.proofs.InstalmentLaws.{amount-read, fault-18, fault-none, fault-short, list-read, pair-read}
 use Rattle.rules.specs.File.{Account, accountOf}
 use Rattle.rules.specs.Instalments.{allPairs, amountSoFar, amountUnless, beginsWith, firstPairs, instalmentFault, listFor, listPaired, madeOf, nextPairs, notFirstPairs, pairAnswer, pairedUnless}
-use Rattle.rules.specs.Lines.{totalAfter}
+use Rattle.rules.specs.Limits.{mostPositions}
+use Rattle.rules.specs.Lines.{entriesFor, totalAfter}
 use Rattle.rules.specs.Refusals.{fileRead}
 use Rattle.rules.specs.declared.Fault.the-variants.{Clean, Found}
 use Rattle.rules.specs.declared.FileRead.{FileRead}
@@ -41,16 +42,23 @@ end-between (Lines first last value) true h = (h, omega arith)
 end-between (Lines first last value) false h = (omega arith, h)
 end-between (NoLines w i) same h = (omega arith, omega arith)
 
+-- An account's pairs fit into the numbers of its pairs, and into those of all its lines.
+pub in-pairs : numbersPerLine * mostPositions ≤ mostPairNumbers
+in-pairs = omega arith
+
+pub in-lines : numbersPerLine * mostPositions ≤ mostNumbers
+in-lines = omega arith
+
 -- The lines compared and the lines written stand in the list and in the numbers.
-module _ (b : List ℕ) (ys : List Line) (numbers : List ℕ) (is r : CallLines) (ready : Ready b (length ys) numbers is r) (there : ℕ) (e : there ≡ start r) where
+module _ {size : ℕ} (enough : numbersPerLine * mostPositions ≤ size) (b : List ℕ) (ys : List Line) (numbers : List ℕ) (is r : CallLines) (ready : Ready size b (length ys) numbers is r) (there : ℕ) (e : there ≡ start r) where
   pub compared-fit : (there ≤ length ys) × (numbersPerLine * there ≤ length numbers)
   compared-fit =
-      (omega (arith, e, ready .order, ready .reach-most), omega (arith, e, ready .order, ready .reach-small, ready .numbers-length))
+      (omega (arith, e, ready .order, ready .reach-most), omega (arith, e, ready .order, ready .reach-small, ready .numbers-length, enough))
 
   pub written-fit : (same : Bool) (then : ℕ) → then ≡ end r same → (there ≤ then) × (then ≤ length ys) × (numbersPerLine * then ≤ length numbers)
   written-fit same then e′ =
       let k = end-between r same (ready .order) in
-      (omega (arith, e, e′, k), omega (arith, e′, k, ready .reach-most), omega (arith, e′, k, ready .reach-small, ready .numbers-length))
+      (omega (arith, e, e′, k), omega (arith, e′, k, ready .reach-most), omega (arith, e′, k, ready .reach-small, ready .numbers-length, enough))
 
 -- The lines of the first pairs, of the count that must stand in the list and of those made.
 first-lines : (a : Account) (numbers : List ℕ) (count made : ℕ) → count + made ≤ length (allPairs a) → linesFrom numbers (count + made) ≡ firstPairs a (count + made)
@@ -71,7 +79,7 @@ Comparing a ys count made value r same =
 module _ (a : Account) (ys : List Line) (count made value : ℕ) (numbers : List ℕ) (r : CallLines) (is : r ≡ readyBy a (length ys) count (count + made) value)
     (few : count ≤ length (allPairs a) → count + made ≤ length (allPairs a)) (lines : linesFrom numbers (reach r) ≡ firstPairs a (reach r))
     (same : Bool) (alike : same ≡ beginsWith (linesFrom numbers (start r)) ys) where
-  judged : a .positions ≤ length ys → r ≡ Lines count (count + made) value → count ≤ length (allPairs a)
+  judged : entriesFor (a .positions) ≤ length ys → r ≡ Lines count (count + made) value → count ≤ length (allPairs a)
       → instalmentFault a ys count ≡ cond same Clean (Found NotFirstPairs)
   judged long e h = by-same same refl
     where
@@ -89,19 +97,19 @@ module _ (a : Account) (ys : List Line) (count made value : ℕ) (numbers : List
       by-same false q = fault-18 a ys count long (tested ∙ ap not q)
 
   by-account : Refusing a ys count r ⊎ Comparing a ys count made value r same
-  by-account = by-room (ltb (length ys) (a .positions)) refl
+  by-account = by-room (ltb (length ys) (entriesFor (a .positions))) refl
     where
-      by-count : a .positions ≤ length ys → (t : Bool) → ltb (length (allPairs a)) count ≡ t → Refusing a ys count r ⊎ Comparing a ys count made value r same
+      by-count : entriesFor (a .positions) ≤ length ys → (t : Bool) → ltb (length (allPairs a)) count ≡ t → Refusing a ys count r ⊎ Comparing a ys count made value r same
       by-count long true q =
-          inl (NotFirstPairs, is ∙ rw (le-ltb (length ys) (a .positions) long, q), fault-18 a ys count long (ap (λ (t : Bool). t || not (beginsWith (firstPairs a count) ys)) q))
+          inl (NotFirstPairs, is ∙ rw (le-ltb (length ys) (entriesFor (a .positions)) long, q), fault-18 a ys count long (ap (λ (t : Bool). t || not (beginsWith (firstPairs a count) ys)) q))
       by-count long false q =
-          let e : r ≡ Lines count (count + made) value = is ∙ rw (le-ltb (length ys) (a .positions) long, q) in
+          let e : r ≡ Lines count (count + made) value = is ∙ rw (le-ltb (length ys) (entriesFor (a .positions)) long, q) in
           let h = ltb-false (length (allPairs a)) count q in
           inr (e, h, judged long e h)
 
-      by-room : (t : Bool) → ltb (length ys) (a .positions) ≡ t → Refusing a ys count r ⊎ Comparing a ys count made value r same
-      by-room true q = inl (ListTooShort, is ∙ rw q, fault-short a ys count (ltb-true (length ys) (a .positions) q))
-      by-room false q = by-count (ltb-false (length ys) (a .positions) q) (ltb (length (allPairs a)) count) refl
+      by-room : (t : Bool) → ltb (length ys) (entriesFor (a .positions)) ≡ t → Refusing a ys count r ⊎ Comparing a ys count made value r same
+      by-room true q = inl (ListTooShort, is ∙ rw q, fault-short a ys count (ltb-true (length ys) (entriesFor (a .positions)) q))
+      by-room false q = by-count (ltb-false (length ys) (entriesFor (a .positions)) q) (ltb (length (allPairs a)) count) refl
 
 -- The numbers told and the list afterwards, by the account.
 module _ (a : Account) (ys : List Line) (count made value : ℕ) (numbers : List ℕ) (r : CallLines) (lines : linesFrom numbers (reach r) ≡ firstPairs a (reach r)) (same : Bool) where

@@ -13,6 +13,7 @@ use instalments::taken_apart;
 use lent::agree;
 use lent::write_entries;
 use lines::MOST_NUMBERS;
+use lines::MOST_PAIR_NUMBERS;
 use lines_and_total::line_count;
 use lines_and_total::premium_answer;
 use lines_and_total::settle;
@@ -259,7 +260,7 @@ pub extern "C" fn serpentgleam_pair(
     ensures numbers { λ r. ⌜ r ≡ pairNumbers (pairAnswer (now (file .entry)) (now (lines .entry)) count allowance) ⌝ }
     ensures list { λ _. ⌜ now (lines .exit) ≡ listPaired (now (file .entry)) (now (lines .entry)) count allowance ⌝ }
 {
-    let mut numbers = [0u64; MOST_NUMBERS];
+    let mut numbers = [0u64; MOST_PAIR_NUMBERS];
     let ready = next_pairs(file, lines.len(), count, allowance, &mut numbers);
     let first = lines_compared(ready);
     let same = agree(lines, first, &numbers);
@@ -294,13 +295,13 @@ pub extern "C" fn serpentgleam_take_apart(
     ensures numbers { λ r. ⌜ r ≡ apartNumbers (apartAnswer (now (file .entry)) (now (lines .entry)) count k) ⌝ }
     ensures list { λ _. ⌜ now (lines .exit) ≡ listApart (now (file .entry)) (now (lines .entry)) count k ⌝ }
 {
-    let mut numbers = [0u64; MOST_NUMBERS];
+    let mut numbers = [0u64; MOST_PAIR_NUMBERS];
     let ready = next_pairs(file, lines.len(), count, 0, &mut numbers);
     let n = lines_compared(ready);
     let same = agree(lines, n, &numbers);
     let answer = taken_apart(ready, same, k);
     let kept = lines_kept(answer, n);
-    let zeros = [0u64; MOST_NUMBERS];
+    let zeros = [0u64; MOST_PAIR_NUMBERS];
     write_entries(lines, kept, n, &zeros);
     apart_numbers(answer)
 }

@@ -1,6 +1,7 @@
 use Rattle.instalments.proofs.ReadyLaws.{pairs-refused}
 use Rattle.instalments.proofs.next_pairs.Statement.{statement}
 use Rattle.instalments.proofs.next_pairs.Tie as tie
+use Rattle.lines.specs.LineNumbers.{mostPairNumbers}
 use borrow.Author.Needs.{needs}
 use denote.Ref.{now}
 use mathlib.Core.Path.{_∙_, sym}
@@ -24,7 +25,7 @@ returns : tie.Need-returns
 returns c = c .before .before .next-accepted .ensures
 
 returns-2 : tie.Need-returns-2
-returns-2 c = pairs-refused (now (c .before .before .before .before .before .before .args .file)) (c .before .before .before .before .before .before .args .room) (now (c .before .before .before .before .before .before .args .numbers)) (c .before .before .before .before .before .before .pre) (c .before .before .before .before .before .before .args .count) (c .before .before .before .before .before .before .args .allowance) _ _ (sym (c .before .before .before .read-file .ensures) ∙ c .before .why .given .1)
+returns-2 c = pairs-refused mostPairNumbers (now (c .before .before .before .before .before .before .args .file)) (c .before .before .before .before .before .before .args .room) (now (c .before .before .before .before .before .before .args .numbers)) (c .before .before .before .before .before .before .pre) (c .before .before .before .before .before .before .args .count) (c .before .before .before .before .before .before .args .allowance) _ _ (sym (c .before .before .before .read-file .ensures) ∙ c .before .why .given .1)
 
 pub next-pairs-spec : {M : Type 1} → statement M
 next-pairs-spec =

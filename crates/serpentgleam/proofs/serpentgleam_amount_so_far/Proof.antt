@@ -9,10 +9,11 @@ use Rattle.rules.specs.declared.Line.{Line}
 use Rattle.serpentgleam.specs.MarginNumbers.{answerNumbers}
 use Rattle.serpentgleam.specs.declared.Answer.{Answer}
 use Rattle.lent.proofs.AgreeCall.{Agree, calls-agree-shared}
+use Rattle.lent.proofs.Literal.{big-lit}
 use Rattle.lent.proofs.Locals.{fills, free-cell, lands-in, local}
-use Rattle.lent.proofs.Zeros.{init-zeros, rows-room, zeros, zeros-length}
+use Rattle.lent.proofs.Zeros.{init-zeros, numbers-room, rows-room, zeros, zeros-length}
 use Rattle.serpentgleam.proofs.InstalmentCalls.{AmountAfter, LinesCompared, Told, calls-amount, calls-compared, calls-told}
-use Rattle.serpentgleam.proofs.Instalments.{amount-so-far, compared-fit}
+use Rattle.serpentgleam.proofs.Instalments.{amount-so-far, compared-fit, in-lines}
 use Rattle.instalments.proofs.CallLines as E
 use Rattle.instalments.proofs.CallLines.Laws as E′
 use Rattle.rules.proofs.Line as T
@@ -92,20 +93,20 @@ module _ {M : Type 1} (𝓤 : URA M) (H : Heap 𝓤) (A : Atoms 𝓤) (W : Given
         qed W ((‵ (flft κ q) ⊛ (‵ (flft κ′ q′) ⊛ ‵ ftrue)) ∷ ‵ (owns (ShrSlice (named 0) κ u8 ∷ ShrSlice (named 1) κ′ T.the-row ∷ u64 ∷ []) a vals) ∷ []) ∵ enter ! C Λ code.function (s ∷ s′ ∷ vint w64 count ∷ []) _ $
         alloc1 ! (λ l₀. alloc1 ! (λ l₁. alloc1 ! (λ l₂. alloc1 ! (λ l₃. alloc1 ! (λ l₄. alloc1 ! (λ l₅. alloc1 ! (λ l₆. alloc1 ! (λ l₇. alloc1 ! (λ l₈. alloc1 ! (λ l₉. alloc1 ! (λ l₁₀. alloc1 ! (λ l₁₁. alloc1 ! (λ l₁₂. alloc0 ! $ params1 ! $
         pass1 ! (init ! 22 refl (tt, (tt, (record { fits = room .0 }, tt)))) $ pass1 ! (init ! 20 refl (tt, (tt, (record { fits = room′ .0 }, tt)))) $ pass1 ! (init ! 18 refl (tt, record { fits = count-fits })) $ pass0 ! $
-        assigns ! (rep ! mostNumbers (lit ! tt)) (from ! (stop !)) (init-zeros ! 16 refl) $
+        assigns ! (rep ! mostNumbers (lit ! tt)) (from ! (stop !)) (init-zeros ! mostNumbers 16 refl) $
         -- [the numbers; the locals; the tokens; what the parameters own]
         move ! (27 ∷ []) $ fsplit ! $ move ! (1 ∷ []) $ fsplit ! $ move ! (29 ∷ []) $ split ! $ move ! (1 ∷ []) $ split ! $ move ! (3 ∷ 0 ∷ 6 ∷ 2 ∷ 5 ∷ []) $ move ! (5 ∷ 6 ∷ []) $ drop ! $ drop ! $
         -- [lines; its token; the numbers; file's token; file; _12 at 5, _5 at 19, _2 at 24, _0 at 28]: so before and after each call
         fills ! (of-opd ! (load ! (from ! (fld ! refl (stop !))) (look-in ! 24 (sub ! 1 refl (whole !))))) 13 refl (tt, record { fits = room′ .0 }) $
         fills ! (addr ! (from ! (stop !))) 11 refl (tt, tt) $
-        fills ! (agg ! (and-then ! (local ! 11 refl) (and-then ! (lit ! tt) (no-more !)))) 9 refl (tt, (tt, (record { fits = lit< tt }, tt))) $
-        calls-amount 𝓤 H A W mem run κ q f (length ys) count (room′ .0) count-fits l₄ zeros zeros-length ! fm (known .k-amount-after) (λ ν δ. (and-then ! (local ! 26 refl) (and-then ! (local ! 13 refl) (and-then ! (local ! 22 refl) (and-then ! (local ! 9 refl) (no-more !)))))) (λ w r numbers ready is-r.
+        fills ! (agg ! (and-then ! (local ! 11 refl) (and-then ! (big-lit ! (record { fits = lit< tt })) (no-more !)))) 9 refl (tt, (tt, (record { fits = lit< tt }, tt))) $
+        calls-amount 𝓤 H A W mem run κ q f (length ys) count (room′ .0) count-fits l₄ mostNumbers numbers-room (zeros mostNumbers) (zeros-length mostNumbers) ! refl fm (known .k-amount-after) (λ ν δ. (and-then ! (local ! 26 refl) (and-then ! (local ! 13 refl) (and-then ! (local ! 22 refl) (and-then ! (local ! 9 refl) (no-more !)))))) (λ w r numbers ready is-r.
         lands-in ! 19 refl (EL.lawful E.the-type E′.the-laws 𝓤 H A W tt .typed r _ is-r .0) $
         calls-compared 𝓤 H A W mem run r w is-r ! fm (known .k-lines-compared) (and-then ! (local ! 20 refl) (no-more !)) (λ _ there e is-there.
         lands-in ! 17 refl (uint-lawful 𝓤 H A W w64 .typed there _ is-there .0) $ rewrite ! 17 (λ (v : Val). ‵ (fat fullShare (tyInt w64) l₆ 0 v)) (ap only (is-there .0)) refl $
         fills ! (addr ! (from ! (stop !))) 7 refl (tt, tt) $
-        fills ! (agg ! (and-then ! (local ! 7 refl) (and-then ! (lit ! tt) (no-more !)))) 5 refl (tt, (tt, (record { fits = lit< tt }, tt))) $
-        calls-agree-shared 𝓤 H A W mem run κ′ q′ x room′ there (is-there .1) l₄ numbers (ready .numbers-length) (compared-fit file ys numbers _ r ready there e) ! fm (known .k-agree) (λ ν δ. (and-then ! (local ! 24 refl) (and-then ! (local ! 17 refl) (and-then ! (local ! 5 refl) (no-more !))))) (λ _ same alike is-same.
+        fills ! (agg ! (and-then ! (local ! 7 refl) (and-then ! (big-lit ! (record { fits = lit< tt })) (no-more !)))) 5 refl (tt, (tt, (record { fits = lit< tt }, tt))) $
+        calls-agree-shared 𝓤 H A W mem run κ′ q′ x room′ there (is-there .1) l₄ mostNumbers numbers-room numbers (ready .numbers-length) (compared-fit in-lines file ys numbers _ r ready there e) ! fm (known .k-agree) (λ ν δ. (and-then ! (local ! 24 refl) (and-then ! (local ! 17 refl) (and-then ! (local ! 5 refl) (no-more !))))) (λ _ same alike is-same.
         lands-in ! 15 refl (bool-lawful 𝓤 H A W .typed same _ is-same .0) $ rewrite ! 15 (λ (v : Val). ‵ (fat fullShare tyBool l₇ 0 v)) (ap only is-same) refl $
         calls-told 𝓤 H A W mem run r w is-r ! same fm (known .k-told) (and-then ! (local ! 20 refl) (and-then ! (local ! 16 refl) (no-more !))) (λ v m e″ is-m.
         lands-in ! 28 refl (LL.lawful N.the-type N′.the-laws 𝓤 H A W .typed m _ is-m .0) $

@@ -8,10 +8,11 @@ use Rattle.rules.specs.Lines.{listAfter, marginAnswer}
 use Rattle.rules.specs.declared.Line.{Line}
 use Rattle.serpentgleam.specs.MarginNumbers.{marginNumbers}
 use Rattle.serpentgleam.specs.declared.Margin.{Margin}
+use Rattle.lent.proofs.Literal.{big-lit}
 use Rattle.lent.proofs.Locals.{fills, free-cell, lands-in, local}
 use Rattle.lent.proofs.Several.{says-both}
 use Rattle.lent.proofs.WriteCall.{WriteEntries, calls-write}
-use Rattle.lent.proofs.Zeros.{init-zeros, rows-room, zeros, zeros-length}
+use Rattle.lent.proofs.Zeros.{init-zeros, numbers-room, rows-room, zeros, zeros-length}
 use Rattle.serpentgleam.proofs.Calls.{LineCount, NumbersOf, Settle, calls-count, calls-numbers, calls-settle}
 use Rattle.serpentgleam.proofs.Settling.{fits, list-is}
 use Rattle.rules.proofs.Line as T
@@ -89,22 +90,22 @@ module _ {M : Type 1} (𝓤 : URA M) (H : Heap 𝓤) (A : Atoms 𝓤) (W : Given
         qed W ((‵ (flft κ q) ⊛ (‵ (flft κ′ q′) ⊛ ‵ ftrue)) ∷ ‵ (owns (ShrSlice (named 0) κ u8 ∷ MutSlice (named 1) κ′ T.the-row ∷ []) a vals) ∷ []) ∵ enter ! C Λ code.function (s ∷ s′ ∷ []) _ $
         alloc1 ! (λ l₀. alloc1 ! (λ l₁. alloc1 ! (λ l₂. alloc1 ! (λ l₃. alloc1 ! (λ l₄. alloc1 ! (λ l₅. alloc1 ! (λ l₆. alloc1 ! (λ l₇. alloc1 ! (λ l₈. alloc1 ! (λ l₉. alloc1 ! (λ l₁₀. alloc1 ! (λ l₁₁. alloc1 ! (λ l₁₂. alloc1 ! (λ l₁₃. alloc0 ! $ params1 ! $
         pass1 ! (init ! 24 refl (tt, (tt, (record { fits = room .0 }, tt)))) $ pass1 ! (init ! 22 refl (tt, (tt, (record { fits = room′ .0 }, tt)))) $ pass0 ! $
-        assigns ! (rep ! mostNumbers (lit ! tt)) (from ! (stop !)) (init-zeros ! 20 refl) $
+        assigns ! (rep ! mostNumbers (lit ! tt)) (from ! (stop !)) (init-zeros ! mostNumbers 20 refl) $
         -- [the numbers; the locals; the tokens; what file and lines own]
         move ! (29 ∷ []) $ fsplit ! $ move ! (1 ∷ []) $ fsplit ! $ move ! (31 ∷ []) $ split ! $ move ! (1 ∷ []) $ split ! $ move ! (3 ∷ 0 ∷ 6 ∷ 2 ∷ 5 ∷ []) $ move ! (5 ∷ 6 ∷ []) $ drop ! $ drop ! $
         -- [lines; its token; the numbers; file's token; file; _13 at 5, _4 at 23, _2 at 26, _0 at 30]: so before and after each call
         fills ! (of-opd ! (load ! (from ! (fld ! refl (stop !))) (look-in ! 26 (sub ! 1 refl (whole !))))) 19 refl (tt, record { fits = room′ .0 }) $
         fills ! (addr ! (from ! (stop !))) 17 refl (tt, tt) $
-        fills ! (agg ! (and-then ! (local ! 17 refl) (and-then ! (lit ! tt) (no-more !)))) 15 refl (tt, (tt, (record { fits = lit< tt }, tt))) $
-        calls-settle 𝓤 H A W mem run κ q f (length ys) (room′ .0) l₃ zeros zeros-length ! fm (known .k-settle) (λ ν δ. and-then ! (local ! 28 refl) (and-then ! (local ! 19 refl) (and-then ! (local ! 15 refl) (no-more !)))) (λ w r numbers settled is-r.
+        fills ! (agg ! (and-then ! (local ! 17 refl) (and-then ! (big-lit ! (record { fits = lit< tt })) (no-more !)))) 15 refl (tt, (tt, (record { fits = lit< tt }, tt))) $
+        calls-settle 𝓤 H A W mem run κ q f (length ys) (room′ .0) l₃ (zeros mostNumbers) (zeros-length mostNumbers) ! fm (known .k-settle) (λ ν δ. and-then ! (local ! 28 refl) (and-then ! (local ! 19 refl) (and-then ! (local ! 15 refl) (no-more !)))) (λ w r numbers settled is-r.
         lands-in ! 23 refl (EL.lawful E.the-type E′.the-laws 𝓤 H A W tt .typed r _ is-r .0) $
         calls-count 𝓤 H A W mem run r w is-r ! fm (known .k-count) (and-then ! (local ! 24 refl) (no-more !)) (λ _ n e is-n.
         lands-in ! 21 refl (uint-lawful 𝓤 H A W w64 .typed n _ is-n .0) $ rewrite ! 21 (λ (v : Val). ‵ (fat fullShare (tyInt w64) l₅ 0 v)) (ap only (is-n .0)) refl $
         fills ! (addr ! (from ! (fld ! refl (hop ! (look-in ! 26 (sub ! 0 refl (whole !))) (stop !))))) 11 refl (tt, tt) $
         fills ! (agg ! (and-then ! (local ! 11 refl) (and-then ! (load ! (from ! (fld ! refl (stop !))) (look-in ! 26 (sub ! 1 refl (whole !)))) (no-more !)))) 9 refl (tt, (tt, (record { fits = room′ .0 }, tt))) $
         fills ! (addr ! (from ! (stop !))) 7 refl (tt, tt) $
-        fills ! (agg ! (and-then ! (local ! 7 refl) (and-then ! (lit ! tt) (no-more !)))) 5 refl (tt, (tt, (record { fits = lit< tt }, tt))) $
-        calls-write 𝓤 H A W mem run κ′ q′ x 0 n (lit< tt) (is-n .1) l₃ numbers (settled .numbers-length) (fits file ys numbers r settled n e) ! fm (known .k-write) (λ ν δ. and-then ! (local ! 9 refl) (and-then ! (lit ! tt) (and-then ! (local ! 21 refl) (and-then ! (local ! 5 refl) (no-more !))))) (λ _ o us written len is-o.
+        fills ! (agg ! (and-then ! (local ! 7 refl) (and-then ! (big-lit ! (record { fits = lit< tt })) (no-more !)))) 5 refl (tt, (tt, (record { fits = lit< tt }, tt))) $
+        calls-write 𝓤 H A W mem run κ′ q′ x 0 n (lit< tt) (is-n .1) l₃ mostNumbers numbers-room numbers (settled .numbers-length) (fits file ys numbers r settled n e) ! fm (known .k-write) (λ ν δ. and-then ! (local ! 9 refl) (and-then ! (lit ! tt) (and-then ! (local ! 21 refl) (and-then ! (local ! 5 refl) (no-more !))))) (λ _ o us written len is-o.
         -- [the last list; lines's token; the numbers; file's token; file; …]
         lands-in ! 13 refl (nothing-lawful 𝓤 H A W .typed o _ is-o .0) $
         calls-numbers 𝓤 H A W mem run r w is-r ! fm (known .k-numbers) (and-then ! (local ! 24 refl) (no-more !)) (λ v m e′ is-m.

@@ -4,16 +4,16 @@ use Rattle.lent.proofs.Walk.{refl, _∙_, ap, ℕ, [], _∷_, lit<, length, URA
 use denote.Enum.Laws as EL
 use denote.Struct.Laws as LL
 use mathlib.Core.Path.{ap₂}
-use Rattle.lines.specs.LineNumbers.{linesFrom, mostNumbers}
+use Rattle.lines.specs.LineNumbers.{linesFrom, mostPairNumbers}
 use Rattle.rules.specs.Instalments.{beginsWith}
 use Rattle.lent.specs.Entries.{entriesWritten}
 use Rattle.lent.proofs.AgreeCall.{Agree, calls-agree}
 use Rattle.lent.proofs.Locals.{fills, free-cell, lands-in, local}
 use Rattle.lent.proofs.WriteCall.{WriteEntries, calls-write}
-use Rattle.lent.proofs.Zeros.{init-zeros, rows-room, zeros, zeros-length}
+use Rattle.lent.proofs.Zeros.{init-zeros, pair-numbers-room, rows-room, zeros, zeros-length}
 use Rattle.serpentgleam.proofs.InstalmentCalls.{LinesAfter, LinesCompared, NextPairs, Told, calls-next, calls-after, calls-compared, calls-told}
 use Rattle.serpentgleam.proofs.ListCall.{Walked, exits, file-val, given, lines-val, meets, vals}
-use Rattle.serpentgleam.proofs.Instalments.{compared-fit, pairs-told, pairs-written, written-fit}
+use Rattle.serpentgleam.proofs.Instalments.{compared-fit, in-pairs, pairs-told, pairs-written, written-fit}
 use Rattle.instalments.proofs.CallLines as E
 use Rattle.instalments.proofs.CallLines.Laws as E′
 use Rattle.rules.proofs.Line as T
@@ -57,14 +57,14 @@ module _ {M : Type 1} (𝓤 : URA M) (H : Heap 𝓤) (A : Atoms 𝓤) (W : Given
       qed W ((‵ (flft κ q) ⊛ (‵ (flft κ′ q′) ⊛ ‵ ftrue)) ∷ ‵ (owns (ShrSlice (named 0) κ u8 ∷ MutSlice (named 1) κ′ T.the-row ∷ u64 ∷ u64 ∷ []) (given f x count allowance) (vals f x count allowance)) ∷ []) ∵ enter ! C Λ code.function (file-val f ∷ lines-val x ∷ vint w64 count ∷ vint w64 allowance ∷ []) _ $
       alloc1 ! (λ l₀. alloc1 ! (λ l₁. alloc1 ! (λ l₂. alloc1 ! (λ l₃. alloc1 ! (λ l₄. alloc1 ! (λ l₅. alloc1 ! (λ l₆. alloc1 ! (λ l₇. alloc1 ! (λ l₈. alloc1 ! (λ l₉. alloc1 ! (λ l₁₀. alloc1 ! (λ l₁₁. alloc1 ! (λ l₁₂. alloc1 ! (λ l₁₃. alloc1 ! (λ l₁₄. alloc1 ! (λ l₁₅. alloc1 ! (λ l₁₆. alloc1 ! (λ l₁₇. alloc1 ! (λ l₁₈. alloc1 ! (λ l₁₉. alloc1 ! (λ l₂₀. alloc1 ! (λ l₂₁. alloc0 ! $ params1 ! $
       pass1 ! (init ! 40 refl (tt, (tt, (record { fits = room .0 }, tt)))) $ pass1 ! (init ! 38 refl (tt, (tt, (record { fits = room′ .0 }, tt)))) $ pass1 ! (init ! 36 refl (tt, record { fits = count-fits })) $ pass1 ! (init ! 34 refl (tt, record { fits = allowance-fits })) $ pass0 ! $
-      assigns ! (rep ! mostNumbers (lit ! tt)) (from ! (stop !)) (init-zeros ! 32 refl) $
+      assigns ! (rep ! mostPairNumbers (lit ! tt)) (from ! (stop !)) (init-zeros ! mostPairNumbers 32 refl) $
       -- [the numbers; the locals; the tokens; what the parameters own]
       move ! (45 ∷ []) $ fsplit ! $ move ! (1 ∷ []) $ fsplit ! $ move ! (47 ∷ []) $ split ! $ move ! (1 ∷ []) $ split ! $ move ! (3 ∷ 0 ∷ 6 ∷ 2 ∷ 5 ∷ []) $ move ! (5 ∷ 6 ∷ []) $ drop ! $ drop ! $
       -- [lines; its token; the numbers; file's token; file; _21 at 5, _6 at 35, _2 at 42, _0 at 46]: so before and after each call
       fills ! (of-opd ! (load ! (from ! (fld ! refl (stop !))) (look-in ! 42 (sub ! 1 refl (whole !))))) 27 refl (tt, record { fits = room′ .0 }) $
       fills ! (addr ! (from ! (stop !))) 25 refl (tt, tt) $
       fills ! (agg ! (and-then ! (local ! 25 refl) (and-then ! (lit ! tt) (no-more !)))) 23 refl (tt, (tt, (record { fits = lit< tt }, tt))) $
-      calls-next 𝓤 H A W mem run κ q f (length (x .now)) count (room′ .0) count-fits l₅ zeros zeros-length ! allowance allowance-fits fm (known .k-next-pairs) (λ ν δ. (and-then ! (local ! 44 refl) (and-then ! (local ! 27 refl) (and-then ! (local ! 40 refl) (and-then ! (local ! 38 refl) (and-then ! (local ! 23 refl) (no-more !))))))) (λ w r numbers ready is-r.
+      calls-next 𝓤 H A W mem run κ q f (length (x .now)) count (room′ .0) count-fits l₅ mostPairNumbers pair-numbers-room (zeros mostPairNumbers) (zeros-length mostPairNumbers) ! refl allowance allowance-fits fm (known .k-next-pairs) (λ ν δ. (and-then ! (local ! 44 refl) (and-then ! (local ! 27 refl) (and-then ! (local ! 40 refl) (and-then ! (local ! 38 refl) (and-then ! (local ! 23 refl) (no-more !))))))) (λ w r numbers ready is-r.
       lands-in ! 35 refl (EL.lawful E.the-type E′.the-laws 𝓤 H A W tt .typed r _ is-r .0) $
       calls-compared 𝓤 H A W mem run r w is-r ! fm (known .k-lines-compared) (and-then ! (local ! 36 refl) (no-more !)) (λ _ there e is-there.
       lands-in ! 33 refl (uint-lawful 𝓤 H A W w64 .typed there _ is-there .0) $ rewrite ! 33 (λ (v : Val). ‵ (fat fullShare (tyInt w64) l₇ 0 v)) (ap only (is-there .0)) refl $
@@ -72,7 +72,7 @@ module _ {M : Type 1} (𝓤 : URA M) (H : Heap 𝓤) (A : Atoms 𝓤) (W : Given
       fills ! (agg ! (and-then ! (local ! 21 refl) (and-then ! (load ! (from ! (fld ! refl (stop !))) (look-in ! 42 (sub ! 1 refl (whole !)))) (no-more !)))) 19 refl (tt, (tt, (record { fits = room′ .0 }, tt))) $
       fills ! (addr ! (from ! (stop !))) 17 refl (tt, tt) $
       fills ! (agg ! (and-then ! (local ! 17 refl) (and-then ! (lit ! tt) (no-more !)))) 15 refl (tt, (tt, (record { fits = lit< tt }, tt))) $
-      calls-agree 𝓤 H A W mem run κ′ q′ x room′ there (is-there .1) l₅ numbers (ready .numbers-length) (compared-fit (f .now) (x .now) numbers _ r ready there e) ! fm (known .k-agree) (λ ν ν′ δ δ′. (and-then ! (local ! 19 refl) (and-then ! (local ! 33 refl) (and-then ! (local ! 15 refl) (no-more !))))) (λ _ same alike is-same.
+      calls-agree 𝓤 H A W mem run κ′ q′ x room′ there (is-there .1) l₅ mostPairNumbers pair-numbers-room numbers (ready .numbers-length) (compared-fit in-pairs (f .now) (x .now) numbers _ r ready there e) ! fm (known .k-agree) (λ ν ν′ δ δ′. (and-then ! (local ! 19 refl) (and-then ! (local ! 33 refl) (and-then ! (local ! 15 refl) (no-more !))))) (λ _ same alike is-same.
       lands-in ! 31 refl (bool-lawful 𝓤 H A W .typed same _ is-same .0) $ rewrite ! 31 (λ (v : Val). ‵ (fat fullShare tyBool l₈ 0 v)) (ap only is-same) refl $
       calls-after 𝓤 H A W mem run r w is-r ! same fm (known .k-lines-after) (and-then ! (local ! 36 refl) (and-then ! (local ! 32 refl) (no-more !))) (λ _ then e′ is-then.
       lands-in ! 29 refl (uint-lawful 𝓤 H A W w64 .typed then _ is-then .0) $ rewrite ! 29 (λ (v : Val). ‵ (fat fullShare (tyInt w64) l₉ 0 v)) (ap only (is-then .0)) refl $
@@ -80,12 +80,12 @@ module _ {M : Type 1} (𝓤 : URA M) (H : Heap 𝓤) (A : Atoms 𝓤) (W : Given
       fills ! (agg ! (and-then ! (local ! 11 refl) (and-then ! (load ! (from ! (fld ! refl (stop !))) (look-in ! 42 (sub ! 1 refl (whole !)))) (no-more !)))) 9 refl (tt, (tt, (record { fits = room′ .0 }, tt))) $
       fills ! (addr ! (from ! (stop !))) 7 refl (tt, tt) $
       fills ! (agg ! (and-then ! (local ! 7 refl) (and-then ! (lit ! tt) (no-more !)))) 5 refl (tt, (tt, (record { fits = lit< tt }, tt))) $
-      calls-write 𝓤 H A W mem run κ′ q′ x there then (is-there .1) (is-then .1) l₅ numbers (ready .numbers-length) (written-fit (f .now) (x .now) numbers _ r ready there e same then e′) ! fm (known .k-write-entries) (λ ν δ. (and-then ! (local ! 9 refl) (and-then ! (local ! 33 refl) (and-then ! (local ! 29 refl) (and-then ! (local ! 5 refl) (no-more !)))))) (λ _ o us written len is-o.
+      calls-write 𝓤 H A W mem run κ′ q′ x there then (is-there .1) (is-then .1) l₅ mostPairNumbers pair-numbers-room numbers (ready .numbers-length) (written-fit in-pairs (f .now) (x .now) numbers _ r ready there e same then e′) ! fm (known .k-write-entries) (λ ν δ. (and-then ! (local ! 9 refl) (and-then ! (local ! 33 refl) (and-then ! (local ! 29 refl) (and-then ! (local ! 5 refl) (no-more !)))))) (λ _ o us written len is-o.
       -- [the last list; lines's token; the numbers; file's token; file; …]
       lands-in ! 13 refl (nothing-lawful 𝓤 H A W .typed o _ is-o .0) $
       calls-told 𝓤 H A W mem run r w is-r ! same fm (known .k-told) (and-then ! (local ! 36 refl) (and-then ! (local ! 32 refl) (no-more !))) (λ v m e″ is-m.
       lands-in ! 46 refl (LL.lawful N.the-type N′.the-laws 𝓤 H A W .typed m _ is-m .0) $
-      move ! (2 ∷ []) $ use1 W (‵ (froom (tyArray (tyInt w64) mostNumbers) l₅ 0)) (rows-room 𝓤 H A W mostNumbers numbers l₅ (ready .numbers-length)) $
+      move ! (2 ∷ []) $ use1 W (‵ (froom (tyArray (tyInt w64) mostPairNumbers) l₅ 0)) (rows-room 𝓤 H A W mostPairNumbers numbers l₅ (ready .numbers-length)) $
       returns ! (look ! 46 refl) $ move ! (46 ∷ 47 ∷ []) $ free-cell ! $ move ! (44 ∷ 45 ∷ []) $ free-cell ! $ move ! (42 ∷ 43 ∷ []) $ free-cell ! $ move ! (40 ∷ 41 ∷ []) $ free-cell ! $ move ! (38 ∷ 39 ∷ []) $ free-cell ! $ move ! (0 ∷ 37 ∷ []) $ free1 ! $
       move ! (34 ∷ 35 ∷ []) $ free-cell ! $ move ! (32 ∷ 33 ∷ []) $ free-cell ! $ move ! (30 ∷ 31 ∷ []) $ free-cell ! $ move ! (28 ∷ 29 ∷ []) $ free-cell ! $ move ! (26 ∷ 27 ∷ []) $ free-cell ! $ move ! (24 ∷ 25 ∷ []) $ free-cell ! $ move ! (22 ∷ 23 ∷ []) $ free-cell ! $
       move ! (20 ∷ 21 ∷ []) $ free-cell ! $ move ! (18 ∷ 19 ∷ []) $ free-cell ! $ move ! (16 ∷ 17 ∷ []) $ free-cell ! $ move ! (14 ∷ 15 ∷ []) $ free-cell ! $ move ! (12 ∷ 13 ∷ []) $ free-cell ! $ move ! (10 ∷ 11 ∷ []) $ free-cell ! $ move ! (8 ∷ 9 ∷ []) $ free-cell ! $ move ! (6 ∷ 7 ∷ []) $ free-cell ! $ move ! (4 ∷ 5 ∷ []) $ free-cell ! $ free0 ! $

@@ -4,17 +4,17 @@
 use Rattle.lent.proofs.Walk.{refl, _∙_, ap, [], _∷_, lit<, length, URA, fullShare, named, w64, tyInt, tyBool, tyArray, Val, vint, SProp, ftrue, fat, froom, flft, Memory, Routine, Heap, Calls, Loops, WpFn, Tables, Atoms, Fun, givenOf, tables, Given, ‵, _⊛_, _$_, _∵_, !, qed, by, move, use1, split, rewrite, fsplit, drop, look, init, stop, hop, fld, from, load, lit, of-opd, and-then, no-more, assigns, returns, enter, alloc1, alloc0, params1, pass1, pass0, free1, free0, addr, whole, sub, look-in, agg, rep, fmOf, WpFn-mono, FmC, owns, uint-lawful, nothing-lawful, bool-lawful, u64, u8, MutSlice, ShrSlice, only, Meets, tripleOf, Triple, entered, cited, tablesOf}
 use denote.Enum.Laws as EL
 use denote.Struct.Laws as LL
-use Rattle.lines.specs.LineNumbers.{mostNumbers}
+use Rattle.lines.specs.LineNumbers.{mostPairNumbers}
 use Rattle.serpentgleam.specs.InstalmentNumbers.{apartNumbers}
 use Rattle.lent.proofs.AgreeCall.{Agree, calls-agree}
 use Rattle.lent.proofs.Locals.{fills, free-cell, lands-in, local}
 use Rattle.lent.proofs.WriteCall.{WriteEntries, calls-write}
-use Rattle.lent.proofs.Zeros.{init-zeros, rows-room, zeros, zeros-length}
+use Rattle.lent.proofs.Zeros.{init-zeros, pair-numbers-room, rows-room, zeros, zeros-length}
 use Rattle.serpentgleam.proofs.InstalmentCalls.{LinesCompared, NextPairs, calls-next, calls-compared}
 use Rattle.serpentgleam.proofs.Apart.{apart-fit, apart-is, apart-written}
 use Rattle.serpentgleam.proofs.ApartCalls.{ApartNumbers, LinesKept, TakesApart, calls-apart, calls-kept, calls-left}
 use Rattle.serpentgleam.proofs.ListCall.{Walked, exits, file-val, given, lines-val, meets, vals}
-use Rattle.serpentgleam.proofs.Instalments.{compared-fit}
+use Rattle.serpentgleam.proofs.Instalments.{compared-fit, in-pairs}
 use Rattle.instalments.proofs.CallLines as E
 use Rattle.instalments.proofs.CallLines.Laws as E′
 use Rattle.rules.proofs.ApartAnswer as P
@@ -64,7 +64,7 @@ module _ {M : Type 1} (𝓤 : URA M) (H : Heap 𝓤) (A : Atoms 𝓤) (W : Given
       qed W ((‵ (flft κ q) ⊛ (‵ (flft κ′ q′) ⊛ ‵ ftrue)) ∷ ‵ (owns (ShrSlice (named 0) κ u8 ∷ MutSlice (named 1) κ′ T.the-row ∷ u64 ∷ u64 ∷ []) (given f x count k) (vals f x count k)) ∷ []) ∵ enter ! C Λ code.function (file-val f ∷ lines-val x ∷ vint w64 count ∷ vint w64 k ∷ []) _ $
       alloc1 ! (λ l₀. alloc1 ! (λ l₁. alloc1 ! (λ l₂. alloc1 ! (λ l₃. alloc1 ! (λ l₄. alloc1 ! (λ l₅. alloc1 ! (λ l₆. alloc1 ! (λ l₇. alloc1 ! (λ l₈. alloc1 ! (λ l₉. alloc1 ! (λ l₁₀. alloc1 ! (λ l₁₁. alloc1 ! (λ l₁₂. alloc1 ! (λ l₁₃. alloc1 ! (λ l₁₄. alloc1 ! (λ l₁₅. alloc1 ! (λ l₁₆. alloc1 ! (λ l₁₇. alloc1 ! (λ l₁₈. alloc1 ! (λ l₁₉. alloc1 ! (λ l₂₀. alloc1 ! (λ l₂₁. alloc1 ! (λ l₂₂. alloc1 ! (λ l₂₃. alloc0 ! $ params1 ! $
       pass1 ! (init ! 44 refl (tt, (tt, (record { fits = room .0 }, tt)))) $ pass1 ! (init ! 42 refl (tt, (tt, (record { fits = room′ .0 }, tt)))) $ pass1 ! (init ! 40 refl (tt, record { fits = count-fits })) $ pass1 ! (init ! 38 refl (tt, record { fits = k-fits })) $ pass0 ! $
-      assigns ! (rep ! mostNumbers (lit ! tt)) (from ! (stop !)) (init-zeros ! 36 refl) $
+      assigns ! (rep ! mostPairNumbers (lit ! tt)) (from ! (stop !)) (init-zeros ! mostPairNumbers 36 refl) $
       -- [the numbers; the locals; the tokens; what the parameters own]
       move ! (49 ∷ []) $ fsplit ! $ move ! (1 ∷ []) $ fsplit ! $ move ! (51 ∷ []) $ split ! $ move ! (1 ∷ []) $ split ! $ move ! (3 ∷ 0 ∷ 6 ∷ 2 ∷ 5 ∷ []) $ move ! (5 ∷ 6 ∷ []) $ drop ! $ drop ! $
       -- [lines; its token; the numbers; file's token; file; _23 at 5, _6 at 39, _2 at 46, _0 at 50]: so before and after each
@@ -72,7 +72,7 @@ module _ {M : Type 1} (𝓤 : URA M) (H : Heap 𝓤) (A : Atoms 𝓤) (W : Given
       fills ! (of-opd ! (load ! (from ! (fld ! refl (stop !))) (look-in ! 46 (sub ! 1 refl (whole !))))) 27 refl (tt, record { fits = room′ .0 }) $
       fills ! (addr ! (from ! (stop !))) 25 refl (tt, tt) $
       fills ! (agg ! (and-then ! (local ! 25 refl) (and-then ! (lit ! tt) (no-more !)))) 23 refl (tt, (tt, (record { fits = lit< tt }, tt))) $
-      calls-next 𝓤 H A W mem run κ q f (length (x .now)) count (room′ .0) count-fits l₅ zeros zeros-length ! 0 (lit< tt) fm (known .k-next-pairs) (λ ν δ. (and-then ! (local ! 48 refl) (and-then ! (local ! 27 refl) (and-then ! (local ! 44 refl) (and-then ! (lit ! tt) (and-then ! (local ! 23 refl) (no-more !))))))) (λ w r numbers ready is-r.
+      calls-next 𝓤 H A W mem run κ q f (length (x .now)) count (room′ .0) count-fits l₅ mostPairNumbers pair-numbers-room (zeros mostPairNumbers) (zeros-length mostPairNumbers) ! refl 0 (lit< tt) fm (known .k-next-pairs) (λ ν δ. (and-then ! (local ! 48 refl) (and-then ! (local ! 27 refl) (and-then ! (local ! 44 refl) (and-then ! (lit ! tt) (and-then ! (local ! 23 refl) (no-more !))))))) (λ w r numbers ready is-r.
       lands-in ! 39 refl (EL.lawful E.the-type E′.the-laws 𝓤 H A W tt .typed r _ is-r .0) $
       calls-compared 𝓤 H A W mem run r w is-r ! fm (known .k-lines-compared) (and-then ! (local ! 40 refl) (no-more !)) (λ _ there e is-there.
       lands-in ! 37 refl (uint-lawful 𝓤 H A W w64 .typed there _ is-there .0) $ rewrite ! 37 (λ (v : Val). ‵ (fat fullShare (tyInt w64) l₇ 0 v)) (ap only (is-there .0)) refl $
@@ -80,25 +80,25 @@ module _ {M : Type 1} (𝓤 : URA M) (H : Heap 𝓤) (A : Atoms 𝓤) (W : Given
       fills ! (agg ! (and-then ! (local ! 21 refl) (and-then ! (load ! (from ! (fld ! refl (stop !))) (look-in ! 46 (sub ! 1 refl (whole !)))) (no-more !)))) 19 refl (tt, (tt, (record { fits = room′ .0 }, tt))) $
       fills ! (addr ! (from ! (stop !))) 17 refl (tt, tt) $
       fills ! (agg ! (and-then ! (local ! 17 refl) (and-then ! (lit ! tt) (no-more !)))) 15 refl (tt, (tt, (record { fits = lit< tt }, tt))) $
-      calls-agree 𝓤 H A W mem run κ′ q′ x room′ there (is-there .1) l₅ numbers (ready .numbers-length) (compared-fit (f .now) (x .now) numbers _ r ready there e) ! fm (known .k-agree) (λ ν ν′ δ δ′. (and-then ! (local ! 19 refl) (and-then ! (local ! 37 refl) (and-then ! (local ! 15 refl) (no-more !))))) (λ _ same alike is-same.
+      calls-agree 𝓤 H A W mem run κ′ q′ x room′ there (is-there .1) l₅ mostPairNumbers pair-numbers-room numbers (ready .numbers-length) (compared-fit in-pairs (f .now) (x .now) numbers _ r ready there e) ! fm (known .k-agree) (λ ν ν′ δ δ′. (and-then ! (local ! 19 refl) (and-then ! (local ! 37 refl) (and-then ! (local ! 15 refl) (no-more !))))) (λ _ same alike is-same.
       lands-in ! 35 refl (bool-lawful 𝓤 H A W .typed same _ is-same .0) $ rewrite ! 35 (λ (v : Val). ‵ (fat fullShare tyBool l₈ 0 v)) (ap only is-same) refl $
       calls-apart 𝓤 H A W mem run r w is-r same k k-fits ! fm (known .k-taken-apart) (and-then ! (local ! 40 refl) (and-then ! (local ! 36 refl) (and-then ! (local ! 43 refl) (no-more !)))) (λ w′ answer told is-answer.
       lands-in ! 33 refl (EL.lawful P.the-type P′.the-laws 𝓤 H A W tt .typed answer _ is-answer .0) $
       calls-kept 𝓤 H A W mem run answer w′ is-answer ! there (is-there .1) fm (known .k-lines-kept) (and-then ! (local ! 34 refl) (and-then ! (local ! 38 refl) (no-more !))) (λ _ kept e′ is-kept.
       lands-in ! 31 refl (uint-lawful 𝓤 H A W w64 .typed kept _ is-kept .0) $ rewrite ! 31 (λ (v : Val). ‵ (fat fullShare (tyInt w64) l₁₀ 0 v)) (ap only (is-kept .0)) refl $
-      assigns ! (rep ! mostNumbers (lit ! tt)) (from ! (stop !)) (init-zeros ! 29 refl) $ move ! (1 ∷ 2 ∷ 0 ∷ []) $
+      assigns ! (rep ! mostPairNumbers (lit ! tt)) (from ! (stop !)) (init-zeros ! mostPairNumbers 29 refl) $ move ! (1 ∷ 2 ∷ 0 ∷ []) $
       -- [lines; its token; the zeros; the numbers; file's token; file; _23 at 6, _9 at 33, _2 at 46, _0 at 50]
       fills ! (addr ! (from ! (fld ! refl (hop ! (look-in ! 46 (sub ! 0 refl (whole !))) (stop !))))) 12 refl (tt, tt) $
       fills ! (agg ! (and-then ! (local ! 12 refl) (and-then ! (load ! (from ! (fld ! refl (stop !))) (look-in ! 46 (sub ! 1 refl (whole !)))) (no-more !)))) 10 refl (tt, (tt, (record { fits = room′ .0 }, tt))) $
       fills ! (addr ! (from ! (stop !))) 8 refl (tt, tt) $
       fills ! (agg ! (and-then ! (local ! 8 refl) (and-then ! (lit ! tt) (no-more !)))) 6 refl (tt, (tt, (record { fits = lit< tt }, tt))) $
-      calls-write 𝓤 H A W mem run κ′ q′ x kept there (is-kept .1) (is-there .1) l₁₁ zeros zeros-length (apart-fit (f .now) (x .now) count k numbers r ready there e same alike answer told kept e′) ! fm (known .k-write-entries) (λ ν δ. (and-then ! (local ! 10 refl) (and-then ! (local ! 31 refl) (and-then ! (local ! 37 refl) (and-then ! (local ! 6 refl) (no-more !)))))) (λ _ o us written len is-o.
+      calls-write 𝓤 H A W mem run κ′ q′ x kept there (is-kept .1) (is-there .1) l₁₁ mostPairNumbers pair-numbers-room (zeros mostPairNumbers) (zeros-length mostPairNumbers) (apart-fit (f .now) (x .now) count k numbers r ready there e same alike answer told kept e′) ! fm (known .k-write-entries) (λ ν δ. (and-then ! (local ! 10 refl) (and-then ! (local ! 31 refl) (and-then ! (local ! 37 refl) (and-then ! (local ! 6 refl) (no-more !)))))) (λ _ o us written len is-o.
       -- [the last list; lines's token; the zeros; the numbers; file's token; file; …]
       lands-in ! 14 refl (nothing-lawful 𝓤 H A W .typed o _ is-o .0) $
       calls-left 𝓤 H A W mem run answer w′ is-answer ! fm (known .k-apart-numbers) (and-then ! (local ! 34 refl) (no-more !)) (λ v m e″ is-m.
       lands-in ! 50 refl (LL.lawful N.the-type N′.the-laws 𝓤 H A W .typed m _ is-m .0) $
-      move ! (3 ∷ []) $ use1 W (‵ (froom (tyArray (tyInt w64) mostNumbers) l₅ 0)) (rows-room 𝓤 H A W mostNumbers numbers l₅ (ready .numbers-length)) $
-      move ! (3 ∷ []) $ use1 W (‵ (froom (tyArray (tyInt w64) mostNumbers) l₁₁ 0)) (rows-room 𝓤 H A W mostNumbers zeros l₁₁ zeros-length) $
+      move ! (3 ∷ []) $ use1 W (‵ (froom (tyArray (tyInt w64) mostPairNumbers) l₅ 0)) (rows-room 𝓤 H A W mostPairNumbers numbers l₅ (ready .numbers-length)) $
+      move ! (3 ∷ []) $ use1 W (‵ (froom (tyArray (tyInt w64) mostPairNumbers) l₁₁ 0)) (rows-room 𝓤 H A W mostPairNumbers (zeros mostPairNumbers) l₁₁ (zeros-length mostPairNumbers)) $
       returns ! (look ! 50 refl) $
       move ! (50 ∷ 51 ∷ []) $ free-cell ! $ move ! (48 ∷ 49 ∷ []) $ free-cell ! $ move ! (46 ∷ 47 ∷ []) $ free-cell ! $ move ! (44 ∷ 45 ∷ []) $ free-cell ! $ move ! (42 ∷ 43 ∷ []) $ free-cell ! $ move ! (1 ∷ 41 ∷ []) $ free1 ! $ move ! (38 ∷ 39 ∷ []) $ free-cell ! $
       move ! (36 ∷ 37 ∷ []) $ free-cell ! $ move ! (34 ∷ 35 ∷ []) $ free-cell ! $ move ! (32 ∷ 33 ∷ []) $ free-cell ! $ move ! (30 ∷ 31 ∷ []) $ free-cell ! $ move ! (0 ∷ 29 ∷ []) $ free1 ! $ move ! (26 ∷ 27 ∷ []) $ free-cell ! $ move ! (24 ∷ 25 ∷ []) $ free-cell ! $

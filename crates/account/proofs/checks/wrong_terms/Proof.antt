@@ -9,7 +9,7 @@ cast-result : tie.Need-cast-result
 cast-result c = search needs
 
 returns : tie.Need-returns
-returns c = rw (c .before .before .before .before .before .before .before .before .before .before .before .flags-of .ensures)
+returns c = rw (c .before .before .before .before .before .before .before .before .before .before .before .before .flags-of .ensures)
 
 pub wrong-terms-spec : {M : Type 1} → statement M
 wrong-terms-spec =

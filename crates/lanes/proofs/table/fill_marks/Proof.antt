@@ -1,13 +1,11 @@
 use Prim.Native.Nat.{_-_, _≤_}
 use Rattle.account.proofs.KnownRows.{read-series-below}
 use Rattle.lanes.proofs.FileFacts.{in-range}
-use Rattle.lanes.proofs.LimiterLaws.{limiter-fits}
 use Rattle.lanes.proofs.TableLaws.{marked-more, marked-none}
 use Rattle.lanes.proofs.table.fill_marks.Statement.{statement}
 use Rattle.lanes.proofs.table.fill_marks.Tie as tie
 use Rattle.lanes.specs.Marks.{Marked}
 use Rattle.rules.specs.File.{accountOf}
-use borrow.Author.Needs.{needs}
 use denote.Ref.{now}
 use lib.ListN.{length, length-set}
 use mathlib.Core.Path.{_≡_, refl}
@@ -25,47 +23,38 @@ loop-holds c = (omega arith, refl, marked-none (accountOf (now (c .before .befor
 position-at-requires : tie.Need-position-at-requires Inv-loop μ-loop
 position-at-requires c κs = (c .before .before .before .before .before .pre .file, c .loop-test .taken)
 
-nearness-of-requires : tie.Need-nearness-of-requires Inv-loop μ-loop
-nearness-of-requires c κs = (c .before .before .before .before .before .before .pre .file, (read-series-below (now (c .before .before .before .before .before .before .args .file)) (c .before .before .before .before .before .before .args .l) (c .before .before .before .before .before .before .pre .file) (c .before .before .loop .r) (c .before .loop-test .taken) (c .position-at .result) (c .position-at .ensures)))
-
-cast-mark-of : tie.Need-cast-mark-of Inv-loop μ-loop
-cast-mark-of c = search needs
-
-mul-mark-of : tie.Need-mul-mark-of Inv-loop μ-loop
-mul-mark-of c = (omega (arith, (read-series-below (now (c .before .before .before .before .before .before .before .before .args .file)) (c .before .before .before .before .before .before .before .before .args .l) (c .before .before .before .before .before .before .before .before .pre .file) (c .before .before .before .before .loop .r) (c .before .before .before .loop-test .taken) (c .before .before .position-at .result) (c .before .before .position-at .ensures)), c .before .before .before .before .before .before .before .before .pre .file .placed .series-most, c .before .before .before .before .before .before .before .before .pre .near-room))
-
-shared-slice-read-mark-of : tie.Need-shared-slice-read-mark-of Inv-loop μ-loop
-shared-slice-read-mark-of c = (omega (arith, (read-series-below (now (c .before .before .before .before .before .before .before .before .before .args .file)) (c .before .before .before .before .before .before .before .before .before .args .l) (c .before .before .before .before .before .before .before .before .before .pre .file) (c .before .before .before .before .before .loop .r) (c .before .before .before .before .loop-test .taken) (c .before .before .before .position-at .result) (c .before .before .before .position-at .ensures)), c .before .before .before .before .before .before .before .before .before .pre .file .placed .series-most, c .before .before .before .before .before .before .before .before .before .pre .near-room))
+fits-lanes-requires : tie.Need-fits-lanes-requires Inv-loop μ-loop
+fits-lanes-requires c κs = record { file = c .before .before .before .before .before .before .pre .file; near-room = c .before .before .before .before .before .before .pre .near-room; near-are = c .before .before .before .before .before .before .pre .near-are; series-below = (read-series-below (now (c .before .before .before .before .before .before .args .file)) (c .before .before .before .before .before .before .args .l) (c .before .before .before .before .before .before .pre .file) (c .before .before .loop .r) (c .before .loop-test .taken) (c .position-at .result) (c .position-at .ensures)); read = c .position-at .ensures }
 
 mark-of-requires : tie.Need-mark-of-requires Inv-loop μ-loop
-mark-of-requires c κs = in-range (now (c .before .before .before .before .before .before .before .before .before .args .file)) (c .before .before .before .before .before .before .before .before .before .args .l) (c .before .before .before .before .before .before .before .before .before .pre .file) (c .before .before .before .before .before .loop .r) (c .before .before .before .position-at .result) (c .before .before .before .before .loop-test .taken) (c .before .before .before .position-at .ensures)
+mark-of-requires c κs = in-range (now (c .before .before .before .before .before .before .before .args .file)) (c .before .before .before .before .before .before .before .args .l) (c .before .before .before .before .before .before .before .pre .file) (c .before .before .before .loop .r) (c .before .position-at .result) (c .before .before .loop-test .taken) (c .before .position-at .ensures)
 
 mul-table : tie.Need-mul-table Inv-loop μ-loop
-mul-table c = (omega (arith, c .before .before .before .before .before .loop-test .taken, c .before .before .before .before .before .before .before .before .before .before .pre .file .placed .positions-most, c .before .before .before .before .before .before .loop .inv .1, c .before .before .before .before .before .before .before .before .before .before .pre .room))
+mul-table c = (omega (arith, c .before .before .before .loop-test .taken, c .before .before .before .before .before .before .before .before .pre .file .placed .positions-most, c .before .before .before .before .loop .inv .1, c .before .before .before .before .before .before .before .before .pre .room))
 
 slice-write-table : tie.Need-slice-write-table Inv-loop μ-loop
-slice-write-table c = (omega (arith, c .before .before .before .before .before .loop-test .taken, c .before .before .before .before .before .before .before .before .before .before .pre .file .placed .positions-most, c .before .before .before .before .before .before .loop .inv .1, c .before .before .before .before .before .before .before .before .before .before .pre .room))
+slice-write-table c = (omega (arith, c .before .before .before .loop-test .taken, c .before .before .before .before .before .before .before .before .pre .file .placed .positions-most, c .before .before .before .before .loop .inv .1, c .before .before .before .before .before .before .before .before .pre .room))
 
 unit-of-row-requires : tie.Need-unit-of-row-requires Inv-loop μ-loop
-unit-of-row-requires c κs = (c .before .before .before .before .before .before .before .before .before .before .pre .file, (read-series-below (now (c .before .before .before .before .before .before .before .before .before .before .args .file)) (c .before .before .before .before .before .before .before .before .before .before .args .l) (c .before .before .before .before .before .before .before .before .before .before .pre .file) (c .before .before .before .before .before .before .loop .r) (c .before .before .before .before .before .loop-test .taken) (c .before .before .before .before .position-at .result) (c .before .before .before .before .position-at .ensures)))
+unit-of-row-requires c κs = (c .before .before .before .before .before .before .before .before .pre .file, (read-series-below (now (c .before .before .before .before .before .before .before .before .args .file)) (c .before .before .before .before .before .before .before .before .args .l) (c .before .before .before .before .before .before .before .before .pre .file) (c .before .before .before .before .loop .r) (c .before .before .before .loop-test .taken) (c .before .before .position-at .result) (c .before .before .position-at .ensures)))
 
 add-table : tie.Need-add-table Inv-loop μ-loop
-add-table c = (omega (arith, c .before .before .before .before .before .before .loop-test .taken, c .before .before .before .before .before .before .before .before .before .before .before .pre .file .placed .positions-most, c .before .before .before .before .before .before .before .loop .inv .1, c .before .before .before .before .before .before .before .before .before .before .before .pre .room))
+add-table c = (omega (arith, c .before .before .before .before .loop-test .taken, c .before .before .before .before .before .before .before .before .before .pre .file .placed .positions-most, c .before .before .before .before .before .loop .inv .1, c .before .before .before .before .before .before .before .before .before .pre .room))
 
 mul-table-2 : tie.Need-mul-table-2 Inv-loop μ-loop
-mul-table-2 c = (omega (arith, c .before .before .before .before .before .before .loop-test .taken, c .before .before .before .before .before .before .before .before .before .before .before .pre .file .placed .positions-most, c .before .before .before .before .before .before .before .loop .inv .1, c .before .before .before .before .before .before .before .before .before .before .before .pre .room))
+mul-table-2 c = (omega (arith, c .before .before .before .before .loop-test .taken, c .before .before .before .before .before .before .before .before .before .pre .file .placed .positions-most, c .before .before .before .before .before .loop .inv .1, c .before .before .before .before .before .before .before .before .before .pre .room))
 
 slice-write-table-2 : tie.Need-slice-write-table-2 Inv-loop μ-loop
-slice-write-table-2 c = simp length-set (omega (arith, c .before .before .before .before .before .before .loop-test .taken, c .before .before .before .before .before .before .before .before .before .before .before .pre .file .placed .positions-most, c .before .before .before .before .before .before .before .loop .inv .1, c .before .before .before .before .before .before .before .before .before .before .before .pre .room))
+slice-write-table-2 c = simp length-set (omega (arith, c .before .before .before .before .loop-test .taken, c .before .before .before .before .before .before .before .before .before .pre .file .placed .positions-most, c .before .before .before .before .before .loop .inv .1, c .before .before .before .before .before .before .before .before .before .pre .room))
 
 add-r : tie.Need-add-r Inv-loop μ-loop
-add-r c = (omega (arith, c .before .before .before .before .before .before .loop-test .taken, c .before .before .before .before .before .before .before .before .before .before .before .pre .file .placed .positions-most, c .before .before .before .before .before .before .before .loop .inv .1, c .before .before .before .before .before .before .before .before .before .before .before .pre .room))
+add-r c = (omega (arith, c .before .before .before .before .loop-test .taken, c .before .before .before .before .before .before .before .before .before .pre .file .placed .positions-most, c .before .before .before .before .before .loop .inv .1, c .before .before .before .before .before .before .before .before .before .pre .room))
 
 loop-less : tie.Need-loop-less Inv-loop μ-loop
-loop-less c = omega (arith, c .before .before .before .before .before .before .loop-test .taken)
+loop-less c = omega (arith, c .before .before .before .before .loop-test .taken)
 
 loop-again : tie.Need-loop-again Inv-loop μ-loop
-loop-again c = (omega (arith, c .before .before .before .before .before .before .loop-test .taken), simp length-set (c .before .before .before .before .before .before .before .loop .inv .1), marked-more (accountOf (now (c .before .before .before .before .before .before .before .before .before .before .before .args .file)) (c .before .before .before .before .before .before .before .before .before .before .before .args .l)) (now (c .before .before .before .before .before .before .before .before .before .before .before .args .table)) (c .before .before .before .before .before .before .before .loop .r) (c .before .before .before .before .before .before .before .loop .table) (omega (arith, c .before .before .before .before .before .before .loop-test .taken, c .before .before .before .before .before .before .before .before .before .before .before .pre .file .placed .positions-most, c .before .before .before .before .before .before .before .loop .inv .1, c .before .before .before .before .before .before .before .before .before .before .before .pre .room)) (omega (arith, c .before .before .before .before .before .before .loop-test .taken, c .before .before .before .before .before .before .before .before .before .before .before .pre .file .placed .positions-most, c .before .before .before .before .before .before .before .loop .inv .1, c .before .before .before .before .before .before .before .before .before .before .before .pre .room)) (c .before .before .before .before .before .before .before .loop .inv .2) _ (c .before .before .before .before .before .position-at .result) (c .before .mark-of .result) (c .unit-of-row .result) (c .before .before .before .before .before .position-at .ensures) (limiter-fits (accountOf (now (c .before .before .before .before .before .before .before .before .before .before .before .args .file)) (c .before .before .before .before .before .before .before .before .before .before .before .args .l)) (now (c .before .before .before .before .before .before .before .before .before .before .before .args .near)) (c .before .before .before .before .before .before .before .before .before .before .before .pre .near-are) (c .before .before .before .before .before .position-at .result) (c .before .before .before .before .before .before .before .loop .r) (c .before .before .before .before .nearness-of .result) (c .before .before .before .before .before .position-at .ensures) (omega (arith, (read-series-below (now (c .before .before .before .before .before .before .before .before .before .before .before .args .file)) (c .before .before .before .before .before .before .before .before .before .before .before .args .l) (c .before .before .before .before .before .before .before .before .before .before .before .pre .file) (c .before .before .before .before .before .before .before .loop .r) (c .before .before .before .before .before .before .loop-test .taken) (c .before .before .before .before .before .position-at .result) (c .before .before .before .before .before .position-at .ensures)), c .before .before .before .before .before .before .before .before .before .before .before .pre .file .placed .series-most, c .before .before .before .before .before .before .before .before .before .before .before .pre .near-room)) (c .before .before .before .before .nearness-of .ensures)) (c .before .mark-of .ensures) (c .unit-of-row .ensures))
+loop-again c = (omega (arith, c .before .before .before .before .loop-test .taken), simp length-set (c .before .before .before .before .before .loop .inv .1), marked-more (accountOf (now (c .before .before .before .before .before .before .before .before .before .args .file)) (c .before .before .before .before .before .before .before .before .before .args .l)) (now (c .before .before .before .before .before .before .before .before .before .args .table)) (c .before .before .before .before .before .loop .r) (c .before .before .before .before .before .loop .table) (omega (arith, c .before .before .before .before .loop-test .taken, c .before .before .before .before .before .before .before .before .before .pre .file .placed .positions-most, c .before .before .before .before .before .loop .inv .1, c .before .before .before .before .before .before .before .before .before .pre .room)) (omega (arith, c .before .before .before .before .loop-test .taken, c .before .before .before .before .before .before .before .before .before .pre .file .placed .positions-most, c .before .before .before .before .before .loop .inv .1, c .before .before .before .before .before .before .before .before .before .pre .room)) (c .before .before .before .before .before .loop .inv .2) _ (c .before .before .before .position-at .result) (c .before .mark-of .result) (c .unit-of-row .result) (c .before .before .before .position-at .ensures) (c .before .before .fits-lanes .ensures) (c .before .mark-of .ensures) (c .unit-of-row .ensures))
 
 same-length : tie.Need-same-length Inv-loop μ-loop
 same-length c = c .before .loop .inv .1
@@ -81,10 +70,7 @@ fill-marks-spec =
     μ-loop
     loop-holds
     position-at-requires
-    nearness-of-requires
-    cast-mark-of
-    mul-mark-of
-    shared-slice-read-mark-of
+    fits-lanes-requires
     mark-of-requires
     mul-table
     slice-write-table

@@ -1,5 +1,5 @@
-use Prim.Native.Nat.{_≤_, _<_, _-_}
-use Rattle.lines_and_total.proofs.RowLaws.{contracts-more}
+use Prim.Native.Nat.{_-_, _<_, _≤_}
+use Rattle.lines_and_total.proofs.RowLaws.{contracts-more, read-blocked}
 use Rattle.lines_and_total.proofs.contracts.fill_contracts.Statement.{statement}
 use Rattle.lines_and_total.proofs.contracts.fill_contracts.Tie as tie
 use Rattle.lines_and_total.specs.Listing.{ContractsTo}
@@ -22,6 +22,9 @@ loop-holds c = (omega arith, refl, λ r (h : r < 0). absurd (omega arith))
 position-at-requires : tie.Need-position-at-requires Inv-loop μ-loop
 position-at-requires c κs = (c .before .before .before .before .pre .0, c .loop-test .taken)
 
+sub-left : tie.Need-sub-left Inv-loop μ-loop
+sub-left c = read-blocked (now (c .before .before .before .before .before .before .args .file)) (c .before .before .before .before .before .before .args .l) (c .before .before .before .before .before .before .pre .0) (c .before .before .before .loop .row) (c .before .before .loop-test .taken) (c .before .position-at .result) (c .before .position-at .ensures)
+
 cast-left : tie.Need-cast-left Inv-loop μ-loop
 cast-left c = search needs
 
@@ -29,16 +32,16 @@ mul-left : tie.Need-mul-left Inv-loop μ-loop
 mul-left c = search needs
 
 slice-write-left : tie.Need-slice-write-left Inv-loop μ-loop
-slice-write-left c = omega (arith, c .before .before .loop-test .taken, c .before .before .before .loop .inv .1, c .before .before .before .before .before .before .pre .1)
+slice-write-left c = (omega (arith, c .before .before .loop-test .taken, c .before .before .before .loop .inv .1, c .before .before .before .before .before .before .pre .1))
 
 add-row : tie.Need-add-row Inv-loop μ-loop
-add-row c = let a = c .before .before .before .before .before .before .args in omega (arith, c .before .before .loop-test .taken, (c .before .before .before .before .before .before .pre .0) .placed .positions-most)
+add-row c = omega (arith, c .before .before .loop-test .taken, c .before .before .before .before .before .before .pre .0 .placed .positions-most)
 
 loop-less : tie.Need-loop-less Inv-loop μ-loop
 loop-less c = omega (arith, c .before .before .loop-test .taken)
 
 loop-again : tie.Need-loop-again Inv-loop μ-loop
-loop-again c = let a = c .before .before .before .before .before .before .args in let o = c .before .before .before .loop in (omega (arith, c .before .before .loop-test .taken), simp length-set (o .inv .1), contracts-more (accountOf (now (a .file)) (a .l)) (o .left) (o .row) (c .before .position-at .result) (omega (arith, c .before .before .loop-test .taken, o .inv .1, c .before .before .before .before .before .before .pre .1)) (c .before .position-at .ensures) (o .inv .2))
+loop-again c = (omega (arith, c .before .before .loop-test .taken), simp length-set (c .before .before .before .loop .inv .1), contracts-more (accountOf (now (c .before .before .before .before .before .before .args .file)) (c .before .before .before .before .before .before .args .l)) (c .before .before .before .loop .left) (c .before .before .before .loop .row) (c .before .position-at .result) (omega (arith, c .before .before .loop-test .taken, c .before .before .before .loop .inv .1, c .before .before .before .before .before .before .pre .1)) (c .before .position-at .ensures) (c .before .before .before .loop .inv .2))
 
 same-length : tie.Need-same-length Inv-loop μ-loop
 same-length c = c .before .loop .inv .1
@@ -54,6 +57,7 @@ fill-contracts-spec =
     μ-loop
     loop-holds
     position-at-requires
+    sub-left
     cast-left
     mul-left
     slice-write-left
