@@ -3,11 +3,11 @@
  *
  * instalments FILE [ROW SOLD]    pairs the account 8 pairs at a time; prints how many pairs there are and the amount so far
  *                                in centavos, before any pair and after each call that made some; or the refusal. With ROW
- *                                and SOLD the client then sells SOLD contracts, fewer than Q, of the held position row ROW:
- *                                the pairs from the first that names the row on are taken apart, Q falls by SOLD in the
- *                                file's bytes in memory, each with the amount after it, and the account is paired again;
- *                                the file on disk stays as it is. Exit status 0 with amounts, 1 with a refusal, 2 where
- *                                the file cannot be read or the words are wrong.
+ *                                and SOLD the client then sells SOLD contracts, fewer than Q and none of the blocked ones,
+ *                                of the held position row ROW: the pairs from the first that names the row on are taken
+ *                                apart, Q falls by SOLD in the file's bytes in memory, each with the amount after it, and
+ *                                the account is paired again; the file on disk stays as it is. Exit status 0 with amounts,
+ *                                1 with a refusal, 2 where the file cannot be read or the words are wrong.
  */
 #include "account_file.h"
 #include "serpentgleam.h"
@@ -23,8 +23,10 @@
 #define TRAILER_POSITIONS 2
 #define ROW_BYTES 32
 
-/* Of a position row: the byte that is 0 if it is held, and the four of Q, the least first. */
+/* Of a position row: the byte that is 0 if it is held, three for the contracts blocked and four for Q, the least first. */
 #define ROW_SIDE 2
+#define ROW_BLOCKED 5
+#define BLOCKED_BYTES 3
 #define ROW_Q 8
 #define Q_BYTES 4
 
@@ -100,20 +102,25 @@ static void print_sale(uint8_t *file, size_t length, uint64_t pairs, uint64_t ro
     pairs = take_apart_from(file, length, pairs, row);
     printf("taken apart: ");
     print_amount(file, length, pairs);
-    /* The row keeps contracts and is in none of the pairs left, and which pair comes next depends on which rows have contracts
-       left, not on how many: these pairs are the first of the file after the sale too. */
+    /* The row is in none of the pairs left, and with fewer of its contracts each of them is still the nearest of the allowed
+       ones: these pairs are the first of the file after the sale too. */
     sell(held_row(file, length, row), sold);
     printf("sold: ");
     print_amount(file, length, pairs);
     pair_on(file, length, pairs);
 }
 
-/* Has the held row so many contracts, and more? */
+/* Has the held row so many contracts that are not blocked, and more contracts than these? */
 static int can_be_sold(uint8_t *file, size_t length, uint64_t row, uint64_t sold)
 {
     const uint8_t *bytes = held_row(file, length, row);
+    uint64_t contracts, blocked;
 
-    return bytes != NULL && sold > 0 && sold < number_at(bytes + ROW_Q, Q_BYTES);
+    if (bytes == NULL)
+        return 0;
+    contracts = number_at(bytes + ROW_Q, Q_BYTES);
+    blocked = number_at(bytes + ROW_BLOCKED, BLOCKED_BYTES);
+    return sold > 0 && sold < contracts && sold <= contracts - blocked;
 }
 
 int main(int count, char **words)
@@ -137,7 +144,8 @@ int main(int count, char **words)
         return 1;
     }
     if (count == 4 && !can_be_sold(file, length, row, sold)) {
-        fprintf(stderr, "instalments: ROW is a held position row, SOLD 1 or more and fewer than its contracts\n");
+        fprintf(stderr,
+                "instalments: ROW is a held position row, SOLD 1 or more, fewer than its contracts and none blocked\n");
         return 2;
     }
     /* The file is accepted and the list is the one that the calls before wrote, so no call below is refused. */

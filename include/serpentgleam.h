@@ -5,8 +5,10 @@
  * `make install` with the archive or the shared object as `pkg-config --cflags --libs serpentgleam` says.
  *
  * The library has no state, takes no memory from a heap, starts no thread and calls nothing of the operating system: every
- * call may be made from any thread, and calls on different threads do not affect each other. A call that takes a file needs
- * about 30 KB of stack or less, but serpentgleam_take_apart about 37 KB or less, and the one for factors about 8 KB.
+ * call may be made from any thread, and calls on different threads do not affect each other. A call that takes a list needs
+ * about 37 KB of stack or less, serpentgleam_pair about 31 KB; the one for factors needs about 8 KB, the others less than 1
+ * KB. From version 0.9.0 on serpentgleam_margin and serpentgleam_amount_so_far need 6 KB more than before, for twice as
+ * many lines; serpentgleam_pair and serpentgleam_take_apart need as much as before.
  *
  * It reads the bytes handed over during the call alone and keeps no pointer to them; the caller owns them before, during
  * and after. It writes nothing to a file's bytes, except in serpentgleam_day, which writes to the bytes lent to it during
@@ -22,6 +24,11 @@
  * rounded up to one centavo: with the same calls, structs and shared object's name, the amount of a line or of a written
  * position is now 0 to 99 centavos more. Which library is installed is said by `pkg-config --modversion serpentgleam`.
  *
+ * Of a held position some contracts, or all, may be blocked: they are pledged elsewhere and serve in no pair. Bytes 5 to 7
+ * of its row say how many, at most Q, the least byte first; of a written row they are 0. The amount of a held position and
+ * the premiums are those of all its contracts. A library before version 0.9.0 refuses a row with blocked contracts with
+ * SERPENTGLEAM_REFUSED_POSITION_TERMS.
+ *
  * A refusal is a number from 1 to 19, below with a name for each; serpentgleam_refusal_sentence gives its sentence. The
  * numbers 3 and 15 are not used. An account without positions is accepted, with no lines, premiums 0 and total 0.
  */
@@ -32,16 +39,22 @@
 #include <stdint.h>
 
 /* The version of this header and of the library that it came with. */
-#define SERPENTGLEAM_VERSION "0.8.0"
+#define SERPENTGLEAM_VERSION "0.9.0"
 #define SERPENTGLEAM_VERSION_MAJOR 0
-#define SERPENTGLEAM_VERSION_MINOR 8
+#define SERPENTGLEAM_VERSION_MINOR 9
 #define SERPENTGLEAM_VERSION_PATCH 0
 
-/* Limits of every account: bytes of its file, series, positions, and lines of its margin. */
+/* Limits of every account: bytes of its file, series and positions. */
 #define SERPENTGLEAM_MOST_BYTES 65536
 #define SERPENTGLEAM_MOST_SERIES 32
 #define SERPENTGLEAM_MOST_POSITIONS 256
-#define SERPENTGLEAM_MOST_LINES 256
+
+/*
+ * The entries of a list of lines that is long enough for every account. An account of p positions has at most 2 x p - 1
+ * lines, and fewer than 2 x p entries are refused. A program compiled with a header before 0.9.0 lends lists of 256 entries,
+ * which are enough for accounts of up to 128 positions.
+ */
+#define SERPENTGLEAM_MOST_LINES 512
 
 /* The kinds of a line. */
 #define SERPENTGLEAM_PAIR 1
@@ -92,9 +105,9 @@ static inline const char *serpentgleam_refusal_sentence(uint64_t number)
     case SERPENTGLEAM_REFUSED_SERIES_TYPE:
         return "a series row: type above 1, or a spare byte not zero";
     case SERPENTGLEAM_REFUSED_POSITION_TERMS:
-        return "a position row: series, side, kind, flags or a spare byte wrong";
+        return "a position row: series, side, kind or flags wrong, or blocked contracts on a written row";
     case SERPENTGLEAM_REFUSED_POSITION_RANGE:
-        return "a position row: Q, PE, REB or premium wrong";
+        return "a position row: Q, PE, REB or premium wrong, or more contracts blocked than Q";
     case SERPENTGLEAM_REFUSED_LIMITER_PRICE:
         return "a position row: PB wrong";
     case SERPENTGLEAM_REFUSED_BARRIER_PRICE:
@@ -102,7 +115,7 @@ static inline const char *serpentgleam_refusal_sentence(uint64_t number)
     case SERPENTGLEAM_REFUSED_BARRIER_SIDE:
         return "a position row: barrier on the wrong side of PV";
     case SERPENTGLEAM_REFUSED_LIST_TOO_SHORT:
-        return "the list of lines has fewer entries than the account has positions";
+        return "the list of lines has fewer entries than twice the account's positions";
     case SERPENTGLEAM_REFUSED_ROW_ASKED_FOR:
         return "there is no position row of the number asked for";
     case SERPENTGLEAM_REFUSED_FACTORS_ASKED_FOR:
@@ -127,9 +140,9 @@ static inline const char *serpentgleam_refusal_sentence(uint64_t number)
  * row: the position row, counted from 0 in the order of the file.
  *
  * Answers the amount, 0 or more: of a written position its margin by itself, a multiple of 100, and of a held one its
- * unsettled premium, exact. Answers minus the refusal's number where the file is refused, or minus
- * SERPENTGLEAM_REFUSED_ROW_ASKED_FOR where the file is accepted and has no such row. The largest amount is
- * 9,999,999,900,000,000.
+ * unsettled premium for all contracts, blocked ones too, exact. Answers minus the refusal's number where the file is
+ * refused, or minus SERPENTGLEAM_REFUSED_ROW_ASKED_FOR where the file is accepted and has no such row. The largest amount
+ * is 9,999,999,900,000,000.
  */
 int64_t serpentgleam_position_amount(const uint8_t *file, size_t length, uint64_t row);
 
@@ -138,6 +151,8 @@ int64_t serpentgleam_position_amount(const uint8_t *file, size_t length, uint64_
  *
  * SERPENTGLEAM_PAIR:  first = written row, second = held row, third = contracts, fourth = amount in centavos.
  * SERPENTGLEAM_LEFT:  first = row, second = contracts, third = amount in centavos (0 if held), fourth = 0.
+ *
+ * The contracts of a left line are those of the row that no pair took; of a held row they count the blocked ones too.
  */
 struct serpentgleam_line {
     uint64_t kind;
@@ -162,12 +177,13 @@ struct serpentgleam_result {
 
 /*
  * Margins an account: pairs held and written positions and writes the pairs as made, then the rows with contracts left in
- * row order, into the caller's list.
+ * row order, into the caller's list. Pairs use at most Q less the blocked of a held row: it is paired while some of these
+ * are left. A row of which all contracts are blocked is in no pair.
  *
  * file, length: the account file's bytes.
  * lines, room: the list and how many entries it has. SERPENTGLEAM_MOST_LINES are enough for every account; fewer than
- * the account has positions are refused with SERPENTGLEAM_REFUSED_LIST_TOO_SHORT. With room 0, which is enough for an
- * account without positions, the pointer may be NULL.
+ * 2 x positions are refused with SERPENTGLEAM_REFUSED_LIST_TOO_SHORT, however many lines there would be. With room 0, which
+ * is enough for an account without positions, the pointer may be NULL.
  *
  * Entries after the last line keep their content, and on a refusal every entry does. The largest amount of a line is
  * 9,999,999,900,000,000, and the largest total is 2,559,999,974,400,000,000, which a signed number of 64 bits holds.
@@ -175,7 +191,7 @@ struct serpentgleam_result {
  * A pair can raise the total, by at most 100 centavos, since its line and that of the contracts left are each rounded by
  * itself. A further row can change which pairs are made, and the total by more. Promised is the cover: where every fb is at
  * most 1,000,000, the total and what the held rows pay for their contracts in pairs are on every path at least what the
- * written rows pay.
+ * written rows pay. No blocked contract is in a pair, so none counts in the cover.
  */
 struct serpentgleam_result serpentgleam_margin(const uint8_t *file, size_t length, struct serpentgleam_line *lines, size_t room);
 
@@ -191,8 +207,8 @@ struct serpentgleam_answer {
 };
 
 /*
- * The unsettled premiums of all held rows of an account together, in centavos: premium x M x Q of each, exact. They are part
- * of the total that serpentgleam_margin gives.
+ * The unsettled premiums of all held rows of an account together, in centavos: premium x M x Q of each, exact, whatever is
+ * blocked. They are part of the total that serpentgleam_margin gives.
  *
  * file, length: the account file's bytes.
  */
@@ -233,7 +249,8 @@ struct serpentgleam_factors serpentgleam_factors(uint64_t code, uint64_t days);
  * In the position rows of the series flag 1, already knocked in, is set where high is at or above an up-and-in barrier or
  * low at or below a down-and-in one, and flag 16, already knocked out, where high is at or above an up-and-out barrier or
  * low at or below a down-and-out one. PV of the series becomes close. No flag is taken away, and every other byte keeps its
- * content. The file is then accepted as before, and the same day once more changes no byte.
+ * content, those of the blocked contracts too. The file is then accepted as before, and the same day once more changes no
+ * byte.
  *
  * Answers value 0, or the refusal: that of the file; then SERPENTGLEAM_REFUSED_SERIES_ASKED_FOR where the account has no
  * such series row; then SERPENTGLEAM_REFUSED_DAY_PRICES where high is below low, close is below low or above high, or one
@@ -247,7 +264,8 @@ struct serpentgleam_answer serpentgleam_day(uint8_t *file, size_t length, uint64
  * list after those that are there. All calls together make the pairs that serpentgleam_margin makes, in its order.
  *
  * file, length: the account file's bytes, the same in each call: nothing is kept between calls.
- * lines, room: the list and how many entries it has, as many as for serpentgleam_margin; with room 0 the pointer may be NULL.
+ * lines, room: the list and how many entries it has, 2 x positions or more as for serpentgleam_margin; with room 0 the
+ * pointer may be NULL.
  * count: how many pair lines are in the list already, in its entries 0 to count - 1.
  * allowance: the most pairs that this call makes. With 0 it makes none.
  *
@@ -256,11 +274,11 @@ struct serpentgleam_answer serpentgleam_day(uint8_t *file, size_t length, uint64
  * allowed; the last call may make none. Every other entry keeps its content: no left lines are written. The whole list with
  * these is written by serpentgleam_margin.
  *
- * Answers the value, or the refusal: that of the file; then SERPENTGLEAM_REFUSED_LIST_TOO_SHORT as for serpentgleam_margin;
- * then SERPENTGLEAM_REFUSED_NOT_FIRST_PAIRS where one of the five numbers of one of the first count entries is not that of
- * the account's pair, or count is above the number of the account's pairs, or above room. The last two have row 0. On a
- * refusal every entry keeps its content. Any count and any allowance may be handed over. A call takes at most about as long
- * as serpentgleam_margin does.
+ * Answers the value, or the refusal: that of the file; then SERPENTGLEAM_REFUSED_LIST_TOO_SHORT with fewer than 2 x
+ * positions entries; then SERPENTGLEAM_REFUSED_NOT_FIRST_PAIRS where one of the five numbers of one of the first count
+ * entries is not that of the account's pair, or count is above the number of the account's pairs, or above room. The last
+ * two have row 0. On a refusal every entry keeps its content. Any count and any allowance may be handed over. A call takes
+ * at most about as long as serpentgleam_margin does.
  */
 struct serpentgleam_answer serpentgleam_pair(const uint8_t *file, size_t length, struct serpentgleam_line *lines, size_t room,
                                              uint64_t count, uint64_t allowance);
@@ -269,12 +287,13 @@ struct serpentgleam_answer serpentgleam_pair(const uint8_t *file, size_t length,
  * The amount in centavos of an account that is paired in instalments: the amounts of its pairs so far, of each row with
  * contracts left after them the amount that its left line would have (0 if held), and the premiums of all held rows.
  *
- * file, length, lines, room, count: as for serpentgleam_pair, with the same refusals. The list is not written to.
+ * file, length, lines, room, count: as for serpentgleam_pair, with the same refusals: the list has 2 x positions entries or
+ * more. It is not written to.
  *
  * After all pairs it is the total of serpentgleam_margin, and it is never larger than the largest total named there. It need
  * not fall with each pair: a pair can raise it, by at most 100 centavos. Promised is the cover, whatever the count: where
  * every fb is at most 1,000,000, the amount so far and what the held rows pay for their contracts in the pairs so far are on
- * every path at least what the written rows pay.
+ * every path at least what the written rows pay. No blocked contract counts in it.
  */
 struct serpentgleam_answer serpentgleam_amount_so_far(const uint8_t *file, size_t length, const struct serpentgleam_line *lines,
                                                       size_t room, uint64_t count);
@@ -283,7 +302,8 @@ struct serpentgleam_answer serpentgleam_amount_so_far(const uint8_t *file, size_
  * Takes pairs apart, as when a client sells a held option during the day: removes the latest k pair lines of an account that
  * is paired in instalments. Their contracts are left again in their rows, and their entries become all zeros.
  *
- * file, length, lines, room, count: as for serpentgleam_pair. The file is still the one that the pairs were made of.
+ * file, length, lines, room, count: as for serpentgleam_pair, the list of 2 x positions entries or more too. The file is
+ * still the one that the pairs were made of.
  * k: how many pairs are taken apart, the latest ones. With 0 none is.
  *
  * The value is how many pair lines are then in the list, count - k, and the next call has it as its count. The five numbers

@@ -1,5 +1,5 @@
 """Where hand arithmetic and product meet: what the product prints, if it is what the hand arithmetic says."""
-from . import apart, instalments, product
+from . import apart, blocked, instalments, product
 from .day import refused, text_after
 from .pairing import answer_of
 from .product import file_after, file_from_text, printed
@@ -45,6 +45,12 @@ def agreed_amounts(text, name, allowance):
     same(name, agreed(text)[-1], f'total {hand[-1][1]}')
     return same(f'{name} {allowance}', product.instalments_printed(name, allowance),
                 [f'pairs {count} {amount}' for count, amount in hand])
+
+
+def agreed_margin(text, entries):
+    """What serpentgleam_margin answers for an account's text and a list, and the list after it."""
+    return same(f'{text}{entries}', product.margined(file_from_text(text), entries),
+                blocked.margined(rows_from(text), entries))
 
 
 def agreed_call(text, entries, count, allowance):

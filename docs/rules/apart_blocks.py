@@ -65,7 +65,7 @@ def turns_table(block):
     """An account of the folder examples, and what is done one after the other, a line for each."""
     name, *lines = block.strip().split('\n')
     text = named(name)
-    kept = Kept(text, [ANY_LINE] * len(rows_from(text)), 0)
+    kept = Kept(text, [ANY_LINE] * 2 * len(rows_from(text)), 0)
     cells = [('begin', '', *kept_cells(kept))]
     for line in lines:
         word, *numbers = line.split()

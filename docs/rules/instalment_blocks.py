@@ -1,4 +1,6 @@
 """The page's part on instalments: amounts between calls, calls with their lists, and the cover of a half-paired account."""
+from itertools import groupby
+
 from .agreement import agreed_amount, agreed_amounts, agreed_call, same
 from .examples import account_bytes, account_text_of
 from .instalments import NO_LINE, amount_after, counts_between
@@ -29,13 +31,15 @@ def cell(lines):
 
 
 def entries_cell(entries):
-    """Entries of a list, each in its own line."""
-    return cell('`' + ' '.join(map(str, entry)) + '`' for entry in entries)
+    """Entries of a list, each in its own line; equal ones that follow one another stand there once."""
+    runs = [('`' + ' '.join(map(str, entry)) + '`', len(list(equal))) for entry, equal in groupby(entries)]
+    return cell(entry if times == 1 else f'{entry} × {times}' for entry, times in runs)
 
 
 def entries_in(listed):
-    """The entries of a list that a block names."""
-    return [] if listed == 'none' else [tuple(map(int, entry.split())) for entry in listed.split(', ')]
+    """The entries of a list that a block names; after × stands how many there are of an entry."""
+    named_entries = [] if listed == 'none' else [entry.partition(' × ') for entry in listed.split(', ')]
+    return [tuple(map(int, entry.split())) for entry, _, times in named_entries for _ in range(int(times or 1))]
 
 
 def answer_cell(answer):
@@ -68,7 +72,7 @@ def calls_table(block):
     """An account of the folder examples, and calls one after the other, by their allowances."""
     name, *allowances = block.split()
     text = named(name)
-    entries, count, cells = [NO_LINE] * len(rows_from(text)), 0, []
+    entries, count, cells = [NO_LINE] * 2 * len(rows_from(text)), 0, []
     for allowance in map(int, allowances):
         made, entries = agreed_call(text, entries, count, allowance)
         cells.append((count, f'{allowance:,}', made, entries_cell(entries)))

@@ -1,4 +1,4 @@
-"""Pairing in instalments and the amount between calls, worked out by hand from document 02 [7]."""
+"""Pairing in instalments and the amount between calls, worked out by hand from document 02 [7], lists by [9]."""
 from .pairing import answer_of
 
 PAIR = 1  # the first of a pair line's five numbers
@@ -24,7 +24,7 @@ def counts_between(rows, allowance):
 
 def refused(rows, entries, count):
     """The refusal of a list and a count for an account that is in order, or None."""
-    if len(entries) < len(rows):
+    if len(entries) < 2 * len(rows):
         return 'refused 12 0'
     pairs = pair_entries(rows)
     return 'refused 18 0' if count > len(pairs) or entries[:count] != pairs[:count] else None

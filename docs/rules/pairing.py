@@ -1,4 +1,8 @@
-"""The pairing, lines and total of an account, worked out by hand from document 01, Pairs."""
+"""The pairing, lines and total of an account, worked out by hand from document 01, Pairs, with document 02 [9]:
+
+"Pairs use at most Q less the blocked, and for pairing .. a held row has contracts left only while some of these are
+unused. The left line of a held row counts blocked ones too".
+"""
 from typing import NamedTuple, Optional
 
 from .spread import unit_spread
@@ -36,10 +40,20 @@ def pairs_of(rows):
 
 
 class Step(NamedTuple):
-    """A pair that was made."""
+    """A pair that was made, and of each row the contracts that are in no pair then, blocked ones too."""
     pair: Pair
     quantity: int
     left: dict
+
+
+def unused(row, left):
+    """The contracts of a row that the next pair may take: those in no pair, less the blocked."""
+    return left[row.number] - row.blocked
+
+
+def rows_in(pair, rows):
+    """The two rows of a pair."""
+    return rows[pair.written], rows[pair.held]
 
 
 def steps_of(rows):
@@ -47,11 +61,11 @@ def steps_of(rows):
     left = {row.number: row.Q for row in rows}
     pairs, steps = pairs_of(rows), []
     while True:
-        allowed = [pair for pair in pairs if pair.lowers and left[pair.written] and left[pair.held]]
+        allowed = [pair for pair in pairs if pair.lowers and all(unused(row, left) for row in rows_in(pair, rows))]
         if not allowed:
             return steps, left
         pair = min(allowed, key=lambda pair: pair.place)
-        quantity = min(left[pair.written], left[pair.held])
+        quantity = min(unused(row, left) for row in rows_in(pair, rows))
         left = {**left, pair.written: left[pair.written] - quantity, pair.held: left[pair.held] - quantity}
         steps.append(Step(pair, quantity, left))
 

@@ -1,5 +1,5 @@
 """The product's answers: an account's text made into its file, what the proved programs print, and what the library's
-calls for instalments and for taking pairs apart answer.
+calls for a list of lines, for instalments and for taking pairs apart answer.
 """
 import ctypes
 import subprocess
@@ -76,11 +76,24 @@ def in_list(entries):
     return (ctypes.c_uint64 * len(numbers))(*numbers)
 
 
+def entries_of(lines):
+    """Such a list as entries of five numbers."""
+    return [tuple(lines[at:at + library.LINE_NUMBERS]) for at in range(0, len(lines), library.LINE_NUMBERS)]
+
+
 def answer_and_list(call, file, entries, *numbers):
     """What a call that writes to the list answers, and the list after it."""
-    lines, size = in_list(entries), library.LINE_NUMBERS
+    lines = in_list(entries)
     answer = told(call(file, len(file), lines, len(entries), *numbers))
-    return answer, [tuple(lines[at:at + size]) for at in range(0, len(lines), size)]
+    return answer, entries_of(lines)
+
+
+def margined(file, entries):
+    """What serpentgleam_margin answers, its lines and total, and the list after it."""
+    lines = in_list(entries)
+    answer = found(library.calls).margin(file, len(file), lines, len(entries))
+    refused = f'refused {answer.refusal} {answer.row}'
+    return refused if answer.refusal else f'{answer.lines} lines, total {answer.total}', entries_of(lines)
 
 
 def paired(file, entries, count, allowance):

@@ -26,10 +26,10 @@ REFUSALS = [
      lambda: rows(GOOD, series=CALL.replace('call', 'type=2')), 0),
     (7, 'Position row: series not below s, side above 1, barrier kind above 4, a flag beside 1, 2, 4, 8 and 16, '
      'already knocked in without an up-and-in or down-and-in, already knocked out without an up-and-out or '
-     'down-and-out, or a spare byte not zero', '`up-and-out=3500 knocked-in`',
+     'down-and-out, or blocked contracts on a written row', '`up-and-out=3500 knocked-in`',
      lambda: rows(GOOD + ' up-and-out=3500 knocked-in'), 0),
-    (8, f'Position row: Q not 1 to 100,000, PE not 1 to {MOST}, REB or premium above {MOST}, or a premium on a '
-     'written row', '`written Q=10 PE=3100 premium=20`', lambda: rows(GOOD + ' premium=20'), 0),
+    (8, f'Position row: Q not 1 to 100,000, PE not 1 to {MOST}, REB or premium above {MOST}, a premium on a written '
+     'row, or more contracts blocked than Q', '`written Q=10 PE=3100 premium=20`', lambda: rows(GOOD + ' premium=20'), 0),
     (9, f'Position row: PB not 0 without a limiter; with one, a call needs PE < PB ≤ {MOST} and a put 0 ≤ PB < PE',
      'call, `PE=3100 PB=3100`', lambda: rows(GOOD + ' PB=3100'), 0),
     (10, f'Position row: without a barrier, barrier price or REB not 0; with one, price not 1 to {MOST}',
@@ -55,6 +55,17 @@ OTHER_FILES = [
      lambda: rows(GOOD + ' up-and-in=3500 knocked-out'), 'refused 7 0'),
     ('position row 0: already knocked out, no barrier (7)', lambda: rows(GOOD + ' knocked-out'), 'refused 7 0'),
     ('position row 0: flag 32 (7)', lambda: rows(GOOD + ' up-and-out=3500 other-flags=32'), 'refused 7 0'),
+    ('position row 0, held: 10 of 10 contracts blocked: no fault', lambda: rows('held Q=10 PE=3100 blocked=10 european'),
+     'left 0 10 0'),
+    ('position row 0, held: 11 of 10 contracts blocked (8)', lambda: rows('held Q=10 PE=3100 blocked=11 european'),
+     'refused 8 0'),
+    ('position row 0, held: 16,777,215 blocked, the most that the bytes hold (8)',
+     lambda: rows('held Q=100000 PE=3100 blocked=16777215 european'), 'refused 8 0'),
+    ('position row 0, written: 1 blocked (7)', lambda: rows(GOOD + ' blocked=1'), 'refused 7 0'),
+    ('position row 0, written: 11 of 10 contracts blocked (7), and not 8', lambda: rows(GOOD + ' blocked=11'),
+     'refused 7 0'),
+    ('position row 0, held: 11 of 10 contracts blocked (8) and PB = PE (9)',
+     lambda: rows('held Q=10 PE=3100 PB=3100 blocked=11 european'), 'refused 8 0'),
     ('s = 0 (2), p = 0', lambda: rows(trailer=(0, 0, 12, 0)), 'refused 2 0'),
     ('p = 0, distance 37 (4)', lambda: rows(trailer=(1, 0, 12 + 24 + 1, 0)), 'refused 4 0'),
     ('p = 0; series row 1: M = 0 (5)', lambda: rows(series=CALL + '\n' + PUT.replace('M=5', 'M=0')), 'refused 5 1'),
@@ -73,7 +84,7 @@ def refusal_table(_):
     lines = ['| Number | Given for | Example | `margin` prints |', '|---|---|---|---|']
     lines += [f'| {number} | {given} | {example} | {answer(example, file(), f"refused {number} {row}")} |'
               for number, given, example, file, row in REFUSALS]
-    lines += ['| 12 | Line list: fewer than p entries | C calls `serpentgleam_margin`, `serpentgleam_pair`, '
+    lines += ['| 12 | Line list: fewer than 2 × p entries | C calls `serpentgleam_margin`, `serpentgleam_pair`, '
               '`serpentgleam_amount_so_far` and `serpentgleam_take_apart` alone | |',
               '| 13 | Row asked for: p or above | C call `serpentgleam_position_amount` alone | |',
               '| 14 | Factors asked for: n above 1,800, or code not 0 to 3 | C call `serpentgleam_factors` alone | |',

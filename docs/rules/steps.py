@@ -1,5 +1,5 @@
 """The pairing of an account as tables: its pairs in the order of choice, the pairs made, the printed lines."""
-from .pairing import pairs_of, steps_of
+from .pairing import pairs_of, rows_in, steps_of
 from .terms import is_position, shown
 
 ROW_WIDTH = 52  # after it the comment with the row's number, unless a row is longer
@@ -24,6 +24,8 @@ def account_text(block):
 
 def verdict(rows, pair):
     """Whether a pair is allowed while both rows have contracts left, and why."""
+    if pair.lowers and rows[pair.held].blocked == rows[pair.held].Q:
+        return f'no, row {pair.held} is blocked as a whole'
     if pair.spread is not None:
         sign = '>' if pair.lowers else '≤'
         return f'{"yes" if pair.lowers else "no"}, {shown(pair.alone)} {sign} {shown(pair.spread)}'
@@ -39,14 +41,19 @@ def pairs_table(rows):
                    '' if pair.spread is None else shown(pair.spread), verdict(rows, pair)) for pair in pairs_of(rows)])
 
 
+def less_blocked(row, left):
+    """The contracts left of a row, and the blocked ones that are taken off."""
+    return f'{left[row.number]} − {row.blocked}' if row.blocked else str(left[row.number])
+
+
 def made_table(rows):
     """The pairs as they are made."""
     before, cells = {row.number: row.Q for row in rows}, []
     for number, step in enumerate(steps_of(rows)[0], 1):
         written, held = step.pair.written, step.pair.held
         after = ', '.join(f'row {row}: {step.left[row]}' for row in (written, held))
-        cells.append((number, f'written {written}, held {held}', f'min({before[written]}; {before[held]}) = '
-                      f'{step.quantity}', after))
+        taken = '; '.join(less_blocked(row, before) for row in rows_in(step.pair, rows))
+        cells.append((number, f'written {written}, held {held}', f'min({taken}) = {step.quantity}', after))
         before = step.left
     return table(['Step', 'Pair', 'Contracts taken', 'Contracts left'], cells)
 

@@ -33,7 +33,9 @@ class Series(NamedTuple):
 
 
 class Row(NamedTuple):
-    """A position row. Prices in ticks; kind is None without a barrier, PB is None without a limiter."""
+    """A position row. Prices in ticks; kind is None without a barrier, PB is None without a limiter. Of a written row
+    none are blocked.
+    """
     number: int
     series: Series
     side: str
@@ -44,6 +46,7 @@ class Row(NamedTuple):
     barrier: int
     REB: int
     premium: int
+    blocked: int
     knocked_in: bool
     knocked_out: bool
     may_pair: bool
@@ -80,7 +83,8 @@ def row_from(number, words, series_rows):
     kind = next((name for name in BARRIERS if name in values), None)
     series, may_pair = series_rows[values.get('series', 0)], 'european' in words or 'before-annex' in words
     return Row(number, series, words[0], values['Q'], values['PE'], values.get('PB'), kind, values.get(kind, 0),
-               values.get('REB', 0), values.get('premium', 0), 'knocked-in' in words, 'knocked-out' in words, may_pair)
+               values.get('REB', 0), values.get('premium', 0), values.get('blocked', 0), 'knocked-in' in words,
+               'knocked-out' in words, may_pair)
 
 
 def bare_lines(text):

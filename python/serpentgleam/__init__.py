@@ -20,7 +20,7 @@ from .engine import (amount_so_far, amount_so_far_or_refusal, day, day_or_refusa
                      margin_or_refusal, pair, pair_or_refusal, position_amount, take_apart, take_apart_or_refusal)
 from .library import NotFound
 
-__version__ = '0.8.0'
+__version__ = '0.9.0'
 __all__ = ['CODES', 'REASONS', 'Factors', 'Left', 'Margin', 'NotFound', 'Pair', 'Refusal', 'Refused', 'amount_so_far',
            'amount_so_far_or_refusal', 'day', 'day_or_refusal', 'factors', 'factors_or_refusal', 'margin',
            'margin_or_refusal', 'pair', 'pair_or_refusal', 'position_amount', 'take_apart', 'take_apart_or_refusal']

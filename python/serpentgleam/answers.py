@@ -7,12 +7,12 @@ REASONS = {  # 3 and 15 are not used; 3 was for an account without positions, wh
     4: 'the distance to the first series row is not 12 + 24 x series + 32 x positions, or longer than the file',
     5: 'a series row: PV, fa, fb, f3 or M outside its range',
     6: 'a series row: type above 1, or a spare byte not zero',
-    7: 'a position row: series, side, kind, flags or a spare byte wrong',
-    8: 'a position row: Q, PE, REB or premium wrong',
+    7: 'a position row: series, side, kind or flags wrong, or blocked contracts on a written row',
+    8: 'a position row: Q, PE, REB or premium wrong, or more contracts blocked than Q',
     9: 'a position row: PB wrong',
     10: 'a position row: barrier price outside its rule or range, or REB without a barrier',
     11: 'a position row: barrier on the wrong side of PV',
-    12: 'the list of lines has fewer entries than the account has positions',
+    12: "the list of lines has fewer entries than twice the account's positions",
     13: 'there is no position row of the number asked for',
     14: 'there are no factors of the code and days asked for: code not 0 to 3, or days above 1,800',
     16: 'there is no series of the number asked for',
@@ -32,7 +32,8 @@ class Pair(NamedTuple):
 
 
 class Left(NamedTuple):
-    """Contracts of a row that stand in no pair, and their amount in centavos, a multiple of 100: 0 if it is held."""
+    """Contracts of a row that stand in no pair, of a held one the blocked ones too, and their amount in centavos, a
+    multiple of 100: 0 if it is held."""
     row: int
     contracts: int
     amount: int

@@ -83,7 +83,7 @@ def position_amount(data: bytes, row: int) -> int:
     data, row = as_bytes(data), operator.index(row)
     if row < 0:
         raise ValueError(f'a row is counted from 0: {row}')
-    row = min(row, library.MOST_LINES)  # which is not there, as no larger row is
+    row = min(row, library.MOST_POSITIONS)  # which is not there, as no larger row is
     amount = library.calls().position_amount(data, len(data), row)
     if amount >= 0:
         return amount

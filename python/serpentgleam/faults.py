@@ -44,6 +44,8 @@ POSITION_RULES = (
          row['knocked-in'] and row['kind'] not in (1, 2)),
     Rule(7, 'knocked-out', 'knocked-out is for up-and-out and down-and-out', lambda row, _:
          row['knocked-out'] and row['kind'] not in (3, 4)),
+    Rule(7, 'blocked', 'blocked is 0 on a written row', lambda row, _: row['side'] == 1 and row['blocked'] > 0),
+    Rule(8, 'blocked', 'blocked is at most Q', lambda row, _: row['side'] == 0 and row['blocked'] > row['Q']),
     Rule(8, 'premium', 'premium is 0 on a written row', lambda row, _: row['side'] == 1 and row['premium'] > 0),
     Rule(9, 'PB', 'PB is 0 without the limiter flag', lambda row, _: not row['limiter'] and row['PB'] > 0),
     Rule(9, 'PB', f'PB of a call is above PE and at most {HIGHEST}', lambda row, series:

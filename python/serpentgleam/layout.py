@@ -54,7 +54,7 @@ POSITION = Table('position', 32, (
     Field('before-annex', 4, 1, None, 0, own_bits=8),
     Field('knocked-out', 4, 1, None, 0, own_bits=16),
     Field('other-flags', 4, 1, Limits(0, 0, 7), 0, own_bits=32 + 64 + 128),
-    Field('spare', 5, 3, Limits(0, 0, 7), 0, hexadecimal(3)),
+    Field('blocked', 5, 3, None, 0),
     Field('Q', 8, 4, Limits(1, 100_000, 8)),
     Field('PE', 12, 4, Limits(1, HIGHEST, 8)),
     Field('PB', 16, 4, None, 0),

@@ -1,5 +1,6 @@
 """Finds and loads the shared object of the proved library, and says what its calls take and give. Amounts are the
-library's: of one before version 0.6.0 they are rounded up to one centavo and not to whole reais."""
+library's: of one before version 0.6.0 they are rounded up to one centavo and not to whole reais. One before version
+0.9.0 refuses rows with blocked contracts."""
 import ctypes
 import functools
 import os
@@ -7,8 +8,9 @@ from typing import Callable, NamedTuple
 
 NAME = 'libserpentgleam.so.1'
 VARIABLE = 'SERPENTGLEAM_LIBRARY_SO'
-MOST_LINES = 256     # of any account
-LINE_NUMBERS = 5     # of one line
+MOST_POSITIONS = 256             # of any account
+MOST_LINES = 2 * MOST_POSITIONS  # entries of a list that is long enough for every account: twice its positions
+LINE_NUMBERS = 5                 # of one line
 
 
 class NotFound(Exception):

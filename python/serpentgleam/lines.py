@@ -7,7 +7,7 @@ from .words import POSITION_LINE, SERIES_LINE, read_words, write_words
 
 FIRST_WORDS = {'series': SERIES_LINE, 'held': POSITION_LINE, 'written': POSITION_LINE, 'position': POSITION_LINE}
 ROW_WIDTH = 70  # after it the comment with the row's number
-LONGEST_TEXT = 2_097_152  # bytes; the longest that write_account gives has half as many
+LONGEST_TEXT = 2_097_152  # bytes; write_account gives fewer than 1,300,000
 
 
 class Unreadable(Exception):

@@ -38,9 +38,9 @@ MARGIN = '''usage: serpentgleam margin [--json | --csv] [-o OUTPUT] [-q] [--from
 
 Prints each line of an answer after its file's name and a tab: as the program margin prints it, and the sentence of a
 refusal after another tab. A summary stands on standard error. A file that cannot be read is named there and has no
-answer; the others are answered. An account without positions has premium 0 and total 0 and no other line. Amounts are
-in centavos: that of a pair or of a row left is rounded up to a multiple of 100, premiums are exact, the total is their
-sum.
+answer; the others are answered. An account without positions has premium 0 and total 0 and no other line. The line of
+a held row left counts its blocked contracts too. Amounts are in centavos: that of a pair or of a row left is rounded up
+to a multiple of 100, premiums are exact, the total is their sum.
 
 ''' + NAMES + FORMS + QUIET + '''
 Text     pair WRITTEN-ROW HELD-ROW CONTRACTS AMOUNT, left ROW CONTRACTS AMOUNT, premium AMOUNT, total AMOUNT, or
@@ -81,8 +81,8 @@ DAY = '''usage: serpentgleam day -o OUTPUT FILE SERIES HIGH LOW CLOSE
 
 Writes the account file brought up to date after a day. PV of the series becomes the close. In the series' rows a
 knock-in is marked knocked-in (flag 1) and a knock-out knocked-out (flag 16) where the day touched its barrier: the high
-at or above an up barrier, or the low at or below a down barrier. Every other byte stays, the cover sheet too. The same
-day once more changes nothing.
+at or above an up barrier, or the low at or below a down barrier. Every other byte stays, the cover sheet and blocked
+contracts too. The same day once more changes nothing.
 
 Nothing is printed. Or refused NUMBER ROW, and why on standard error: the number is that of the file's refusal, or 16
 where there is no such series, or 17 where the high is below the low, the close is not between them, or one of the three
@@ -145,11 +145,12 @@ position rows are each counted from 0 in the order of their lines. An account wi
 series         call or put, PV, fa, fb, f3, M. A factor is always a decimal with its point and at most six places (1.0,
                0.05): without the point it is an error, so that nobody takes 1200000 millionths for a factor of 1200000.
 held, written  series (may be left out where there is only one), Q, PE; if the position has it PB (the limiter), one
-               barrier with its price (up-and-in=, down-and-in=, up-and-out= or down-and-out=), REB, premium, and the
+               barrier with its price (up-and-in=, down-and-in=, up-and-out= or down-and-out=), REB, premium, blocked
+               (of a held one: how many of its contracts are pledged elsewhere and serve in no pair, at most Q), and the
                words knocked-in and knocked-out (already), european, before-annex (opened before it).
 cover          text="..." with \n \r \t \" \\ for what cannot stand there, or hex=...; several lines follow one another.
 
 Raw values, for rows that are refused: type=7 in place of call or put; position side=3 in place of held or written;
 kind=9 and barrier-price=3500 in place of a barrier; PB-without-flag=3300; other-flags=160 for flags that have no word;
-spare=01ff00. Every value is written that fits its field.
+blocked=11 on a written line or above Q; of a series line spare=01ff00. Every value is written that fits its field.
 '''

@@ -14,10 +14,13 @@ class Word(NamedTuple):
 
 
 class Line(NamedTuple):
-    """A kind of line: its table, its table's fields and its words by name, these in the order of writing."""
+    """A kind of line: its table, its table's fields and its words by name, these in the order of writing; and words
+    that it took before, by name with a sentence.
+    """
     table: Table
     fields: dict
     words: dict
+    former: dict
 
     @property
     def defaults(self):
@@ -37,8 +40,9 @@ def flag(name):
     return alone(name, **{name: bit})
 
 
-def line_of(table, *words):
-    return Line(table, {field.name: field for field in table.fields}, {word.name: word for word in words})
+def line_of(table, *words, former=()):
+    fields = {field.name: field for field in table.fields}
+    return Line(table, fields, {word.name: word for word in words}, dict(former))
 
 
 SERIES_LINE = line_of(
@@ -50,9 +54,10 @@ POSITION_LINE = line_of(
     valued('series'), valued('Q'), valued('PE'), valued('PB', limiter=2), valued('PB', 'PB-without-flag', limiter=0),
     valued('barrier-price', 'up-and-in', kind=1), valued('barrier-price', 'down-and-in', kind=2),
     valued('barrier-price', 'up-and-out', kind=3), valued('barrier-price', 'down-and-out', kind=4),
-    valued('kind'), valued('barrier-price'), valued('REB'), valued('premium'),
+    valued('kind'), valued('barrier-price'), valued('REB'), valued('premium'), valued('blocked'),
     flag('knocked-in'), flag('knocked-out'), flag('european'), flag('before-annex'), valued('other-flags'),
-    valued('spare'))
+    former={'spare': 'no word of a position line any more: bytes 5 to 7 of its row are the number of contracts '
+                     'blocked, written blocked=...'})
 
 
 def write_words(line, row):
@@ -83,6 +88,8 @@ def read_word(line, text, given):
     name, equals, value = text.partition('=')
     word = line.words.get(name)
     if word is None:
+        if name in line.former:
+            raise ValueError(line.former[name])
         raise ValueError(f'no such word in a {line.table.name} line, which takes {", ".join(line.words)}'
                          + meant(name, line.words))
     before = [given[field] for field in word.fields if field in given]

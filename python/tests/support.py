@@ -27,6 +27,7 @@ BEFORE_THE_DAY = os.path.join(TOP, 'examples', 'before_the_day.account')
 AFTER_THE_DAY = os.path.join(TOP, 'examples', 'after_the_day.account')
 WHOLE_REAIS = os.path.join(TOP, 'examples', 'whole_reais.account')
 INSTALMENTS = os.path.join(TOP, 'examples', 'instalments.account')
+BLOCKED = os.path.join(TOP, 'examples', 'blocked.account')
 SERIES_TEXT = 'series call PV=3000 fa=1.2 fb=0.8 f3=0.05 M=5\n'
 ROOM = 4096  # bytes on a disk that is full after them
 

@@ -103,7 +103,7 @@ class Lists(unittest.TestCase):
     def setUp(self):
         self.data = bytes_of(INSTALMENTS)
         self.pairs = serpentgleam.margin(self.data).pairs
-        self.rows = len(account_of(self.data).positions)
+        self.least = 2 * len(account_of(self.data).positions)  # entries of a list that is long enough
 
     def check_refused(self, data, numbers, room, count, refusal):
         """Both calls are refused so, and every entry keeps its content."""
@@ -116,7 +116,7 @@ class Lists(unittest.TestCase):
 
     def test_what_is_written(self):
         """The entries of the pairs that a call makes, and no other, whatever they have."""
-        for room in (self.rows, self.rows + 1, 256):
+        for room in (self.least, self.least + 1, 256, library.MOST_LINES):
             lent, count = Lent([], room), 0
             for allowance in (0, 8, 0, 7, 3, 2 ** 64 - 1, 1):
                 expected = lent.numbers[:]
@@ -155,7 +155,7 @@ class Lists(unittest.TestCase):
         self.check_refused(self.data, lines_of(self.pairs[1:]), 256, 19, NOT_FIRST)
 
     def test_counts_above_the_pairs(self):
-        for room in (self.rows, 256):
+        for room in (self.least, 256):
             for count in (len(self.pairs) + 1, room, room + 1, 257, *(large + 20 for large in LARGE[:-1]), *LARGE):
                 self.check_refused(self.data, lines_of(self.pairs), room, count, NOT_FIRST)
 
@@ -171,8 +171,8 @@ class Lists(unittest.TestCase):
         self.assertEqual(kept.amount(self.data, len(self.pairs)), (0, 0, result.total))
 
     def test_a_list_that_is_too_short(self):
-        """12 comes before 18, and the list needs as many entries as there are positions."""
-        for room in (0, 1, len(self.pairs), self.rows - 1):
+        """12 comes before 18, and the list needs twice as many entries as there are positions."""
+        for room in (0, 1, len(self.pairs), self.least // 2, self.least - 1):
             numbers = lines_of(self.pairs[:room])
             for count in (0, 1, len(self.pairs), len(self.pairs) + 1, *LARGE):
                 self.check_refused(self.data, numbers, room, count, TOO_SHORT)

@@ -67,10 +67,10 @@ class Pairs(unittest.TestCase):
             pairs, account = serpentgleam.margin(data).pairs, account_of(data)
             held = {pair.held: at for at, pair in reversed(list(enumerate(pairs)))}
             for row, before in held.items():
-                contracts = account.positions[row]['Q']
+                contracts, blocked = account.positions[row]['Q'], account.positions[row]['blocked']
                 if contracts > 1:
                     left = serpentgleam.take_apart(data, pairs, len(pairs) - before)
-                    rows = [{**other, 'Q': contracts // 2} if at == row else other
+                    rows = [{**other, 'Q': max(contracts // 2, blocked)} if at == row else other
                             for at, other in enumerate(account.positions)]
                     after = file_of(account._replace(positions=rows))
                     self.assertEqual(left + serpentgleam.pair(after, left, 256), serpentgleam.margin(after).pairs)
@@ -82,7 +82,7 @@ class Lists(unittest.TestCase):
     def setUp(self):
         self.data = bytes_of(INSTALMENTS)
         self.pairs = serpentgleam.margin(self.data).pairs
-        self.rows = len(account_of(self.data).positions)
+        self.least = 2 * len(account_of(self.data).positions)  # entries of a list that is long enough
 
     def check_refused(self, data, numbers, room, count, refusal, ks=KS):
         """The call is refused so, and every entry keeps its content."""
@@ -94,7 +94,7 @@ class Lists(unittest.TestCase):
 
     def test_what_is_written(self):
         """Zeros in the entries of the pairs taken apart, and in no other, whatever the others have."""
-        for room in (self.rows, self.rows + 1, 256):
+        for room in (self.least, self.least + 1, 256, library.MOST_LINES):
             lent, count = Lent(lines_of(self.pairs), room), len(self.pairs)
             for k in (0, 1, 0, 8, 3, 8):
                 expected = lent.numbers[:]
@@ -140,7 +140,7 @@ class Lists(unittest.TestCase):
     def test_k_above_the_count(self):
         for count in (0, 1, 8, len(self.pairs)):
             self.check_refused(self.data, lines_of(self.pairs), 256, count, ABOVE_COUNT, (count + 1, *KS[4:]))
-            lent = Lent(lines_of(self.pairs), self.rows)
+            lent = Lent(lines_of(self.pairs), self.least)
             self.assertEqual(lent.take_apart(self.data, count, count), (0, 0, 0))
 
     def test_each_number_of_each_line(self):
@@ -150,13 +150,13 @@ class Lists(unittest.TestCase):
             self.check_refused(self.data, changed, 256, at // library.LINE_NUMBERS + 1, NOT_FIRST)
 
     def test_counts_above_the_pairs(self):
-        for room in (self.rows, 256):
+        for room in (self.least, 256):
             for count in (len(self.pairs) + 1, room, room + 1, 257, *(large + 20 for large in LARGE[:-1]), *LARGE):
                 self.check_refused(self.data, lines_of(self.pairs), room, count, NOT_FIRST)
 
     def test_a_list_that_is_too_short(self):
         """12 comes before 18 and 19."""
-        for room in (0, 1, len(self.pairs), self.rows - 1):
+        for room in (0, 1, len(self.pairs), self.least // 2, self.least - 1):
             for count in (0, 1, len(self.pairs), len(self.pairs) + 1, *LARGE):
                 self.check_refused(self.data, lines_of(self.pairs[:room]), room, count, TOO_SHORT)
 

@@ -52,7 +52,7 @@ class RoundTrip(unittest.TestCase):
                 self.assertEqual(file_from_text(text_beside(path)), bytes_of(path))
 
     def test_vectors(self):
-        self.assertEqual(len(VECTORS), 1809)
+        self.assertEqual(len(VECTORS), 2208)
         for data, _ in LAID_OUT:
             self.check(data)
 
@@ -136,9 +136,11 @@ class Form(unittest.TestCase):
         self.assertEqual(nonzero(row_with('held Q=1 PE=2 PB=0')), {'Q': 1, 'PE': 2, 'limiter': 2})
 
     def test_raw_values(self):
-        row = row_with('position side=3 Q=0 PE=0 kind=9 barrier-price=7 PB-without-flag=8 other-flags=160 spare=01ff00')
+        row = row_with('position side=3 Q=0 PE=0 kind=9 barrier-price=7 PB-without-flag=8 other-flags=160 blocked=9')
         self.assertEqual(nonzero(row), {
-            'side': 3, 'kind': 9, 'barrier-price': 7, 'PB': 8, 'other-flags': 160, 'spare': 0x00ff01})
+            'side': 3, 'kind': 9, 'barrier-price': 7, 'PB': 8, 'other-flags': 160, 'blocked': 9})
+        data = file_with('', SERIES_TEXT.replace('M=5', 'M=5 spare=01ff00'))
+        self.assertEqual(account_of(data).series[0]['spare'], 0x00ff01)
 
     def test_factors_are_exact(self):
         for text, millionths in (('0.0', 0), ('1.0', 1_000_000), ('1.2', 1_200_000), ('0.000001', 1),
@@ -182,7 +184,12 @@ class Trailers(unittest.TestCase):
             self.assertEqual(unreadable(faulty), f'refused {sentence}')
 
     def test_the_longest_text_can_be_read(self):
-        data = b'\n' * (65_536 - 68) + file_with('held Q=1 PE=1')
-        text = text_from_file(data)
-        self.assertLess(len(text), LONGEST_TEXT)
-        self.assertEqual(file_from_text(text), data)
+        faulty = {field.name: field.bits for field in POSITION.fields} | {'side': 1, 'kind': 0, 'limiter': 0}
+        many_faults = file_of(Account(b'', random_rows(random.Random(1), SERIES, 1), [faulty] * 256))
+        for rows in (file_with('held Q=1 PE=1'), many_faults):
+            data = b'\n' * (65_536 - len(rows)) + rows
+            text = text_from_file(data)
+            self.assertGreater(len(text), 1_040_000)
+            self.assertLess(len(text), 1_300_000)
+            self.assertEqual(file_from_text(text), data)
+        self.assertLess(1_300_000, LONGEST_TEXT)

@@ -10,8 +10,8 @@ from serpentgleam.reports import legible
 from serpentgleam.text import file_from_text, text_from_file
 
 NO_SUCH_WORD = ('no such word in a position line, which takes held, written, side, series, Q, PE, PB, PB-without-flag, '
-                'up-and-in, down-and-in, up-and-out, down-and-out, kind, barrier-price, REB, premium, knocked-in, '
-                'knocked-out, european, before-annex, other-flags, spare')
+                'up-and-in, down-and-in, up-and-out, down-and-out, kind, barrier-price, REB, premium, blocked, '
+                'knocked-in, knocked-out, european, before-annex, other-flags')
 
 
 class Errors(unittest.TestCase):
@@ -50,8 +50,8 @@ class Errors(unittest.TestCase):
 
     def test_hexadecimal(self):
         for value in ('01ff', '01ff0000', '01fg00'):
-            self.check_position(f'held Q=1 PE=1 spare={value}',
-                                f'field spare: {value} is not 3 bytes as 6 hexadecimal digits')
+            self.check(SERIES_TEXT.replace('\n', f' spare={value}'),
+                       f'line 1, field spare: {value} is not 3 bytes as 6 hexadecimal digits')
         for value in ('abc', 'xy', ''):
             shown = value or 'an empty value'
             self.check(f'cover hex={value}', f'line 1, field hex: {shown} is not an even number of hexadecimal digits')
