@@ -2,13 +2,13 @@
 -- account with blocked contracts, its lines and total, its contracts left, its pairs in instalments and taken apart, and after a
 -- day; held rows that are the same as a written one; and the most lines that an account of p rows can have.
 -- Assumes nothing.
-use Prim.Native.Nat.{ℕ, _+_, _*_, _-_, _/_, _%_}
+use Prim.Native.Nat.{ℕ, _*_, _-_}
 use mathlib.Core.List.{List, [], _∷_, _++_}
 use mathlib.Core.Path.{_≡_, refl}
 use lib.ListN.{length}
 use lib.IntN.{pos}
 use Rattle.rules.proofs.CheckOrder.{trailerBytes}
-use Rattle.rules.proofs.FileTables.{typedBytes}
+use Rattle.rules.proofs.FileTables.{rowBytesWith, typedBytes}
 use Rattle.rules.proofs.InstalmentTables.{lineOf, mark}
 use Rattle.rules.specs.Day.{dayFault, dayWritten, fileAfter, flagsAfter}
 use Rattle.rules.specs.File.{accountOf, layout, positionRow, seriesRow, span}
@@ -20,7 +20,7 @@ use Rattle.rules.specs.Promises.{unpaired}
 use Rattle.rules.specs.Refusals.{fileRead, matchedFault, meaning, positionRowFault, positionRows, refuse, refused, rows, seriesRowFault, seriesRows, trailerFault}
 use Rattle.rules.specs.Spreads.{unitSpread}
 use Rattle.rules.specs.TakingApart.{apartAnswer, apartFault, contractsLeft, listApart}
-use Rattle.rules.specs.Writing.{bytes4, stores}
+use Rattle.rules.specs.Writing.{stores}
 use Rattle.rules.specs.declared.AmountAnswer.the-variants.{Amount}
 use Rattle.rules.specs.declared.ApartAnswer.the-variants.{TakenApart}
 use Rattle.rules.specs.declared.Day.{Day}
@@ -30,23 +30,16 @@ use Rattle.rules.specs.declared.MarginAnswer.the-variants.{NoTotal, Tota
 use Rattle.rules.specs.declared.PairAnswer.the-variants.{Paired}
 use Rattle.rules.specs.declared.Refusal.the-variants.{ListTooShort}
 
--- A row without barrier and with these flags: side, flags, number blocked, Q, PE, PB, premium.
-abbrev rowWith : ℕ → ℕ → ℕ → ℕ → ℕ → ℕ → ℕ → List ℕ
-rowWith side flags blocked q pe pb premium =
-    (0 ∷ 0 ∷ side ∷ 0 ∷ flags ∷ blocked % 256 ∷ blocked / 256 % 256 ∷ blocked / 65_536 ∷ [])
-    ++ bytes4 q
-    ++ bytes4 pe
-    ++ bytes4 pb
-    ++ bytes4 0
-    ++ bytes4 0
-    ++ bytes4 premium
+-- A European row without barrier: side, number blocked, Q, PE, PB, premium.
+abbrev rowWith : ℕ → ℕ → ℕ → ℕ → ℕ → ℕ → List ℕ
+rowWith side blocked q pe pb premium = rowBytesWith blocked 0 side 0 4 q pe pb 0 0 premium
 
--- A European held row by the number blocked, Q, PE and premium, and a written one by Q and PE.
+-- A held row by the number blocked, Q, PE and premium, and a written one by Q and PE.
 abbrev held : ℕ → ℕ → ℕ → ℕ → List ℕ
-held blocked q pe premium = rowWith 0 4 blocked q pe 0 premium
+held blocked q pe premium = rowWith 0 blocked q pe 0 premium
 
 abbrev written : ℕ → ℕ → List ℕ
-written q pe = rowWith 1 4 0 q pe 0 0
+written q pe = rowWith 1 0 q pe 0 0
 
 -- Calls of document 01's series.
 abbrev account : ℕ → List ℕ → List ℕ
@@ -72,13 +65,13 @@ Limits =
     × Taken (held 100_000 100_000 3250 0)
     × Turned 8 (held 100_001 100_000 3250 0)
     × Turned 8 (held 65_536 65_535 3250 0)
-    × Turned 7 (rowWith 1 4 1 300 3100 0 0)
-    × Turned 7 (rowWith 1 4 256 300 3100 0 0)
-    × Turned 7 (rowWith 1 4 65_536 100_000 3100 0 0)
+    × Turned 7 (rowWith 1 1 300 3100 0 0)
+    × Turned 7 (rowWith 1 256 300 3100 0 0)
+    × Turned 7 (rowWith 1 65_536 100_000 3100 0 0)
     -- 7 before 8: above Q on a written row; 8 before 9: above Q, and PB without its flag
-    × Turned 7 (rowWith 1 4 301 300 3100 0 0)
-    × Turned 8 (rowWith 0 4 301 300 3100 3300 0)
-    × Turned 9 (rowWith 0 4 300 300 3100 3300 0)
+    × Turned 7 (rowWith 1 301 300 3100 0 0)
+    × Turned 8 (rowWith 0 301 300 3100 3300 0)
+    × Turned 9 (rowWith 0 300 300 3100 3300 0)
 
 -- Document 01's example with one of four contracts of row 1 blocked, and all three of row 2.
 abbrev some : List ℕ

@@ -1,5 +1,5 @@
 -- Computed values of the file, its refusals and the answers: the third part of the table of `RuleValues`.
-use Prim.Native.Nat.{ℕ}
+use Prim.Native.Nat.{ℕ, _/_, _%_}
 use mathlib.Core.Bool.{Bool, true, false}
 use mathlib.Core.List.{List, [], _∷_, _++_}
 use mathlib.Core.Path.{_≡_}
@@ -95,16 +95,20 @@ FlagBits =
     × (limiterOf true 7 ≡ At 7)
     × (limiterOf false 7 ≡ NoLimiter)
 
--- A position row: series, side, kind, flags; Q, PE, PB, barrier price, REB, premium.
-abbrev pub rowBytes : ℕ → ℕ → ℕ → ℕ → ℕ → ℕ → ℕ → ℕ → ℕ → ℕ → List ℕ
-rowBytes number side kind flags q pe pb price reb premium =
-    (number ∷ 0 ∷ side ∷ kind ∷ flags ∷ 0 ∷ 0 ∷ 0 ∷ [])
+-- A position row: its number blocked; series, side, kind, flags; Q, PE, PB, barrier price, REB, premium. And one of which none
+-- is blocked.
+abbrev pub rowBytesWith : ℕ → ℕ → ℕ → ℕ → ℕ → ℕ → ℕ → ℕ → ℕ → ℕ → ℕ → List ℕ
+rowBytesWith blocked number side kind flags q pe pb price reb premium =
+    (number ∷ 0 ∷ side ∷ kind ∷ flags ∷ blocked % 256 ∷ blocked / 256 % 256 ∷ blocked / 65_536 ∷ [])
     ++ bytes4 q
     ++ bytes4 pe
     ++ bytes4 pb
     ++ bytes4 price
     ++ bytes4 reb
     ++ bytes4 premium
+
+abbrev pub rowBytes : ℕ → ℕ → ℕ → ℕ → ℕ → ℕ → ℕ → ℕ → ℕ → ℕ → List ℕ
+rowBytes = rowBytesWith 0
 
 -- A series row of the PV and type given.
 abbrev pub typedBytes : ℕ → ℕ → List ℕ
