@@ -7,8 +7,8 @@
  * The library has no state, takes no memory from a heap, starts no thread and calls nothing of the operating system: every
  * call may be made from any thread, and calls on different threads do not affect each other. A call that takes a list needs
  * about 37 KB of stack or less, serpentgleam_pair about 31 KB; the one for factors needs about 8 KB, the others less than 1
- * KB. From version 0.9.0 on serpentgleam_margin and serpentgleam_amount_so_far need 6 KB more than before, for twice as
- * many lines; serpentgleam_pair and serpentgleam_take_apart need as much as before.
+ * KB. From version 0.9.0 on serpentgleam_margin and serpentgleam_amount_so_far need about 7 KB more than before, for twice
+ * as many lines, and serpentgleam_pair and serpentgleam_take_apart less than 1 KB more.
  *
  * It reads the bytes handed over during the call alone and keeps no pointer to them; the caller owns them before, during
  * and after. It writes nothing to a file's bytes, except in serpentgleam_day, which writes to the bytes lent to it during

@@ -16,9 +16,9 @@ def series(pv=3000, fa=1_200_000, fb=800_000, f3=50_000, m=5, option=0, spare=(0
     return {'PV': pv, 'fa': fa, 'fb': fb, 'f3': f3, 'M': m, 'type': option, 'spare': number(spare)}
 
 
-def position(series=0, side=1, kind=0, flags=4, spare=(0, 0, 0), q=10, pe=3100, pb=0, price=0, reb=0, premium=0):
+def position(series=0, side=1, kind=0, flags=4, blocked=0, q=10, pe=3100, pb=0, price=0, reb=0, premium=0):
     return {'series': series, 'side': side, 'kind': kind, **{flag.name: flags & flag.bits for flag in FLAGS},
-            'spare': number(spare), 'Q': q, 'PE': pe, 'PB': pb, 'barrier-price': price, 'REB': reb, 'premium': premium}
+            'blocked': blocked, 'Q': q, 'PE': pe, 'PB': pb, 'barrier-price': price, 'REB': reb, 'premium': premium}
 
 
 def account(rows, positions, s=None, p=None, distance=None, tail=(0, 0, 0, 0), cover=b''):

@@ -1,10 +1,10 @@
 #!/usr/bin/env python3
 """Compares the command `serpentgleam margin` with the program margin_batch on 20,000 account files.
 
-The files are the vectors, accepted ones with other quantities, strikes and premiums and with some knock-outs marked as
-already knocked out, and damaged ones. What the command prints as text, as JSON and as CSV is parsed back, and each
-answer is compared with the program's. Needs target/bin/margin_batch (`rt check`) and the shared object
-(library/shared_object.sh). Prints how many it compared, and every difference; exit status 1 where there is one.
+The files are the vectors, accepted ones with other quantities, numbers blocked, strikes and premiums and with some
+knock-outs marked as already knocked out, and damaged ones. What the command prints as text, as JSON and as CSV is
+parsed back, and each answer is compared with the program's. Needs target/bin/margin_batch (`rt check`) and the shared
+object (library/shared_object.sh). Prints how many it compared, and every difference; exit status 1 where there is one.
 """
 import csv
 import io
@@ -38,10 +38,16 @@ def marked(chance, row):
     return {**row, KNOCKED_OUT.name: KNOCKED_OUT.bits} if row['kind'] in (3, 4) and chance.random() < 0.2 else row
 
 
+def contracts(chance, row):
+    """Q, and how many are blocked: of a held row none, one, all but one or all."""
+    q = chance.randint(1, 50)
+    return {'Q': q, 'blocked': 0 if row['side'] else chance.choice((0, 0, 1, q - 1, q))}
+
+
 def changed(chance, account):
-    """The file of an account with other quantities, strikes and premiums; few strikes, so that rows pair and tie."""
+    """The file of an account with other contracts, strikes and premiums; few strikes, so that rows pair and tie."""
     least, most = chance.choice(((3000, 3005), (2900, 3300), (1, 10_000_000)))
-    rows = [dict(marked(chance, row), Q=chance.randint(1, 50), PE=chance.randint(least, most),
+    rows = [dict(marked(chance, row), **contracts(chance, row), PE=chance.randint(least, most),
                  premium=0 if row['side'] else chance.randint(0, 40)) for row in account.positions]
     chance.shuffle(rows)
     return file_of(account._replace(positions=rows))

@@ -98,7 +98,7 @@ version $version
 pair 0
 pair 3000
 left 7500
-entries kept 253
+entries kept 509
 premium 300, refusal 0
 total 10800, refusal 0
 amount 25000
@@ -125,7 +125,7 @@ EXPECTED
         LD_LIBRARY_PATH=$prefix/lib ./client "$top/examples/no_positions.account" > client.out
         same client.out "$language $way without positions" <<EXPECTED
 version $version
-entries kept 256
+entries kept 512
 premium 0, refusal 0
 total 0, refusal 0
 amount -13

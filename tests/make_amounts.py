@@ -1,10 +1,11 @@
 #!/usr/bin/env python3
 """Writes the accounts that `position_amounts` is run on, and what it must write.
 
-Each case is an account file and the answer that document 01 gives it, for flag 16 with document 02 [5] and for the rounding
-with document 02 [6], stated by hand beside it: the amounts of its rows, or the reading's refusal. Many amounts are those of
-document 01, Checked values, starred or not: a unit margin in ticks times M 5 and Q 10, which is a multiple of 100 centavos,
-or times M 1 and Q 1, rounded up to one. Run it from anywhere; `git status` shows no difference where nothing changed.
+Each case is an account file and the answer that document 01 gives it, for flag 16 with document 02 [5], for the rounding
+with document 02 [6] and for blocked contracts with document 02 [9], stated by hand beside it: the amounts of its rows, or
+the reading's refusal. Many amounts are those of document 01, Checked values, starred or not: a unit margin in ticks times M 5
+and Q 10, which is a multiple of 100 centavos, or times M 1 and Q 1, rounded up to one. Run it from anywhere; `git status`
+shows no difference where nothing changed.
 """
 from accounts import CALL, EXAMPLE, PUT, account, last, one, position, series, write
 
@@ -145,6 +146,39 @@ IN_REAIS = [
              [position(series=i, q=100_000, pe=1) for i in range(3)]), [100, 100, 200]),
 ]
 
+# Contracts blocked as collateral (document 02 [9]): amounts are over Q, however many are blocked
+BLOCKED = [
+    (account(CALL, [position(side=0, premium=7, blocked=blocked) for blocked in (0, 1, 5, 9, 10)]), [350] * 5),
+    (account(PUT, [position(), position(side=0, q=1, pe=3000, blocked=1),
+                   position(side=0, q=3, pe=3000, premium=20, blocked=2)]), [35_000, 0, 300]),
+    # each byte of the number alone, and all three
+    (account(CALL, [position(side=0, q=100_000, premium=1, blocked=blocked)
+                    for blocked in (255, 65_280, 65_536, 66_051, 100_000)]), [500_000] * 5),
+    # the same with a barrier, knocked in, knocked out and with a limiter
+    (account(CALL, [position(side=0, kind=1, price=3500, blocked=10, premium=1),
+                    position(side=0, kind=2, flags=5, price=3500, blocked=1, premium=2),
+                    position(side=0, kind=3, flags=20, price=2500, reb=9, blocked=10, premium=3),
+                    position(side=0, flags=6, pb=3300, blocked=4)]), [50, 100, 150, 0]),
+    # the largest premium, all blocked
+    (account([series(m=1000)], [position(side=0, q=100_000, premium=10_000_000, blocked=100_000)]), [10 ** 15]),
+    # 8: above Q, by one and with each byte alone, in the first row and in the last
+    (one(side=0, blocked=11), 'refused 8 0'),
+    (one(side=0, blocked=256), 'refused 8 0'),
+    (one(side=0, blocked=65_546), 'refused 8 0'),
+    (one(side=0, q=100_000, blocked=100_001), 'refused 8 0'),
+    (last(side=0, blocked=0xff_ffff), 'refused 8 2'),
+    # 7: of a written row, each byte alone, whether or not it is above Q
+    (one(q=100_000, blocked=256), 'refused 7 0'),
+    (last(q=100_000, blocked=65_536), 'refused 7 2'),
+    (one(blocked=11), 'refused 7 0'),
+    # 7 before 8, and 8 before 9 and 10
+    (one(blocked=1, q=0), 'refused 7 0'),
+    (one(side=0, kind=5, blocked=11), 'refused 7 0'),
+    (one(side=0, pb=1, blocked=11), 'refused 8 0'),
+    (one(side=0, price=1, blocked=11), 'refused 8 0'),
+    (one(side=0, pb=1, blocked=10), 'refused 9 0'),
+]
+
 REFUSED = [
     # 1: the size of the file
     (b'', 'refused 1 0'),
@@ -200,8 +234,8 @@ REFUSED = [
     (one(flags=5), 'refused 7 0'),
     (one(kind=3, flags=5, price=3500), 'refused 7 0'),
     (one(kind=4, flags=5, price=2500), 'refused 7 0'),
-    (one(spare=(1, 0, 0)), 'refused 7 0'),
-    (last(spare=(0, 0, 255)), 'refused 7 2'),
+    (one(blocked=1), 'refused 7 0'),
+    (last(blocked=255 << 16), 'refused 7 2'),
     # flag 16 with a knock-in, beside flag 1, and beside a bit without a meaning
     (one(kind=1, flags=20, price=3500), 'refused 7 0'),
     (one(kind=2, flags=20, price=2500), 'refused 7 0'),
@@ -248,7 +282,7 @@ REFUSED = [
     (one(kind=1, price=0, reb=1), 'refused 10 0'),
 ]
 
-CASES = ACCEPTED + REFUSED + IN_REAIS
+CASES = ACCEPTED + REFUSED + IN_REAIS + BLOCKED
 
 
 def told(answer):

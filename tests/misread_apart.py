@@ -10,10 +10,7 @@ CHECKS = READ + CHECK_19
 CLEAR = '    list[left..before].fill([0; 5]);\n'
 ANSWER = '    Ok(left as u64)\n'
 ACCOUNT = '    let account = read_account(bytes)?;\n'
-CHECK_12 = '''    if list.len() < account.positions.len() {
-        return Err(Refusal { number: 12, row: 0 });
-    }
-'''
+CHECK_12 = '    list_long_enough(&account, list)?;\n'
 
 
 def apart(*changes):

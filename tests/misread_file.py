@@ -32,7 +32,7 @@ TABLE = [
     ('32 series', 's = 32 refused', [(READER, 's > 32', 's > 31')]),
     ('fb at most one', 'fb above 1,000,000 refused', [(READER, 'within(0, fb, fa)', 'within(0, fb, 1_000_000)')]),
     ('premium of a written row', 'a premium allowed on a written row', [
-        (ROW, 'if self.side == 1 { 0 } else { HIGHEST_PRICE }', 'HIGHEST_PRICE')]),
+        (ROW, 'if self.is_written() { 0 } else { HIGHEST_PRICE }', 'HIGHEST_PRICE')]),
     ('PB at PE', 'a limiter equal to the strike allowed', [
         (ROW, 'strike < price', 'strike <= price'), (ROW, 'price < strike', 'price <= strike')]),
     ('barrier at PV', 'a barrier equal to PV allowed', [

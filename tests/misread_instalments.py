@@ -5,7 +5,8 @@ MADE = '            made += 1;\n'
 BEGUN = 'let contracts_left = contracts(&account);'
 AMOUNT = 'margin_with(&self.account, self.pairs.clone(), &self.contracts_left).total'
 READ = '    let account = read_account(bytes)?;\n'
-CHECK_12 = '''    if list.len() < account.positions.len() {
+CHECK_12 = '    list_long_enough(&account, list)?;\n'
+REFUSED_12 = '''    if %s {
         return Err(Refusal { number: 12, row: 0 });
     }
 '''
@@ -165,7 +166,7 @@ REFUSED = [
     let m = margin_with(&half.account, half.pairs.clone(), &half.contracts_left);
     let left = m.left.iter().map(|l| [2, l.row as u64, l.quantity as u64, l.amount as u64, 0]);
     let mut lines = lines;
-    lines.extend(left.take(count.saturating_sub(made).min(256) as usize));
+    lines.extend(left.take(count.saturating_sub(made).min(512) as usize));
     if lines.len() as u64 != count || list[..lines.len()] != lines {
         return Err(Refusal { number: 18, row: 0 });
     }
@@ -177,11 +178,11 @@ REFUSED = [
         (CHECK_12, ''), (CHECK_18, CHECK_18.replace(OTHER_LINES, '!list.starts_with(&lines)') + CHECK_12.replace(
             'account', 'half.account')))),
     ('12 for the pairs', 'a list refused with 12 only where it has no room for the pairs', instalments(
-        (CHECK_12, CHECK_12.replace('account.positions.len()', 'crate::lines::margin(&account).pairs.len()')))),
+        (CHECK_12, REFUSED_12 % 'list.len() < crate::lines::margin(&account).pairs.len()'))),
     ('12 for the count', 'a count above the list refused with 12', instalments(
-        (CHECK_12, CHECK_12.replace('account.positions.len()', 'account.positions.len() || count > list.len() as u64')))),
+        (CHECK_12, CHECK_12 + REFUSED_12 % 'count > list.len() as u64'))),
     ('12 before the reading', 'an empty list refused before the file is read', instalments(
-        (READ, '    if list.is_empty() {\n        return Err(Refusal { number: 12, row: 0 });\n    }\n' + READ))),
+        (READ, REFUSED_12 % 'list.is_empty()' + READ))),
     ('18 before the reading', 'a count above 255 refused before the file is read', instalments(
         (READ, '    if count > 255 {\n        return Err(Refusal { number: 18, row: 0 });\n    }\n' + READ))),
     ('row of 18', 'refusal 18 with the wrong line for its row', instalments(

@@ -16,7 +16,8 @@ LARGER_TAKEN = '''    let quantity = contracts_left[written].max(contracts_left[
     contracts_left[held] = 0;
 '''
 PREMIUM = '.map(|row| premium_amount(account, row)).sum();'
-PREMIUM_LEFT = '''.map(|row| premium_amount(account, row) / account.positions[row].quantity * contracts_left[row])
+PREMIUM_LEFT = '''.map(|row| premium_amount(account, row) / account.positions[row].quantity 
+        * (contracts_left[row] + account.positions[row].blocked))
     .sum();'''
 TOTAL = 'let total = pair_amounts + left_amounts + premium;'
 
@@ -55,7 +56,7 @@ LINES = [
     ('premium in the line', 'the line of a held row with its premium', lines(
         'Side::Held => 0,', 'Side::Held => position.premium * series.m * quantity,')),
     ('premium of paired rows', 'no premium of a held row that stands in a pair', lines(
-        PREMIUM, '.filter(|&row| contracts_left[row] == account.positions[row].quantity)' + PREMIUM)),
+        PREMIUM, '.filter(|&row| contracts_left[row] == account.positions[row].free())' + PREMIUM)),
     ('premium of contracts left', 'premium of the contracts left alone', lines(PREMIUM, PREMIUM_LEFT)),
     ('total without premiums', 'premiums not in the total', lines(TOTAL, TOTAL.replace(' + premium', ''))),
 ]

@@ -24,6 +24,7 @@ from collections import namedtuple
 
 import misread_amounts
 import misread_apart
+import misread_blocked
 import misread_days
 import misread_factors
 import misread_file
@@ -45,8 +46,9 @@ Noticing = namedtuple('Noticing', 'what program given parts_of expected tables')
 
 MODULES = ['account', 'day', 'factors', 'factors_list', 'instalment_cases', 'instalments', 'lines', 'output', 'pairing',
            'position', 'position_row', 'reader', 'spread']
-TABLES = [misread_positions, misread_spreads, misread_limiters, misread_pairs, misread_file, misread_no_positions,
-          misread_knocked_out, misread_reais, misread_order]
+TABLES = [module.TABLE for module in (
+    misread_positions, misread_spreads, misread_limiters, misread_pairs, misread_file, misread_no_positions,
+    misread_knocked_out, misread_reais, misread_order, misread_blocked)]
 DAY_BYTES = 32
 
 
@@ -62,7 +64,8 @@ def by_files_of_amounts():
     def amounts(output):
         return list(amounts_of(output.decode().splitlines()))
 
-    return Noticing('file', 'amounts_reference_batch', given, amounts, expected, [misread_amounts])
+    return Noticing('file', 'amounts_reference_batch', given, amounts, expected,
+                    [misread_amounts.TABLE, misread_blocked.AMOUNTS])
 
 
 def by_cases_of_days():
@@ -77,7 +80,8 @@ def by_cases_of_days():
             at = end
         return found
 
-    return Noticing('case', 'day_reference_batch', given, answers, expected, [misread_days])
+    return Noticing('case', 'day_reference_batch', given, answers, expected,
+                    [misread_days.TABLE, misread_blocked.DAYS])
 
 
 def by_cases_of_instalments():
@@ -87,12 +91,12 @@ def by_cases_of_instalments():
 
     given, expected = stored('cases'), stored('answers')
     return Noticing('case', 'instalments_reference_batch', given, answers_of, expected,
-                    [misread_instalments, misread_apart])
+                    [misread_instalments.TABLE, misread_apart.TABLE, misread_blocked.INSTALMENTS])
 
 
 def by_lines_of_factors():
     expected = vector_bytes('stdout', 'factors_list')
-    return Noticing('line', 'factors_list', b'', bytes.splitlines, expected, [misread_factors])
+    return Noticing('line', 'factors_list', b'', bytes.splitlines, expected, [misread_factors.TABLE])
 
 
 def sources(program):
@@ -148,7 +152,7 @@ def print_table(noticing):
     if count_that_notice(noticing, texts, []) != 0:
         raise SystemExit(f'{noticing.program} of the reference itself does not give what is expected')
     print(f'| Name | What is misread | {what.capitalize()}s that notice |\n|---|---|---|')
-    for name, misread, changes in [misreading for table in noticing.tables for misreading in table.TABLE]:
+    for name, misread, changes in [misreading for table in noticing.tables for misreading in table]:
         counts.append(count_that_notice(noticing, texts, changes))
         print(f'| {name} | {misread} | {counts[-1]} |', flush=True)
     print(f'\n{len(counts)} misreadings, {counts.count(0)} noticed by no {what}, the fewest noticed by {min(counts)}')

@@ -13,7 +13,17 @@ pub mod ways;
 #[cfg(test)]
 mod tests;
 
+use library::LONGEST_LIST;
 use reference::lines::Entry;
+
+/// A list that is long enough for every account.
+pub type List = [Entry; LONGEST_LIST];
+
+/// A list of zeros.
+#[inline]
+pub fn empty() -> List {
+    [[0; 5]; LONGEST_LIST]
+}
 
 /// The number of pairs in a list of lines.
 pub fn pairs_in(list: &[Entry]) -> usize {

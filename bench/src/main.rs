@@ -7,10 +7,10 @@ use std::hint::black_box;
 use bench::day::{day_account, DAY};
 use bench::factors::Tables;
 use bench::instalments::{counts, ALLOWANCE};
-use bench::pairs_in;
 use bench::shapes::{account, Shape, SHAPES};
 use bench::timing::{measure, measure_each, rounds_asked};
 use bench::ways::{lanes, repeated_search, tournament};
+use bench::{empty, pairs_in, List};
 use reference::day::{apply_day, Day};
 use reference::factors::Factors;
 use reference::instalments::{amount_so_far, pair_into, take_apart_in};
@@ -20,7 +20,6 @@ use reference::reader::Refusal;
 
 /// Line count and total, or the refusal.
 type Answer = Result<(usize, i64), Refusal>;
-type List = [Entry; 256];
 type Program = fn(&[u8], &mut [Entry]) -> Answer;
 type PositionProgram = fn(&[u8], u64) -> i64;
 type FactorsProgram<'a> = &'a dyn Fn(u64, u64) -> Result<Factors, Refusal>;
@@ -49,7 +48,7 @@ fn engine(file: &[u8], list: &mut [Entry]) -> Answer {
 /// The number of pairs. Each program's answer must be the engine's.
 fn compare(shape: &Shape, file: &[u8]) -> usize {
     let answers = PROGRAMS.map(|program| {
-        let mut list = [Entry::default(); 256];
+        let mut list = empty();
         (program(file, &mut list), list)
     });
     for answer in &answers[1..] {
@@ -62,7 +61,7 @@ fn compare(shape: &Shape, file: &[u8]) -> usize {
 fn times(rounds: usize, file: &[u8]) -> [f64; 4] {
     let calls = PROGRAMS.map(|program| {
         move || {
-            let mut list = [Entry::default(); 256];
+            let mut list = empty();
             black_box(program(black_box(file), black_box(&mut list))).ok();
         }
     });
@@ -203,7 +202,7 @@ fn day_table(rounds: usize) {
 /// The lines of the margin. Made in instalments, its pairs and the amounts between must be the reference's, and the last
 /// amount the total.
 fn compare_instalments(file: &[u8]) -> List {
-    let [mut list, mut made, mut expected] = [[Entry::default(); 256]; 3];
+    let [mut list, mut made, mut expected] = [empty(); 3];
     let (_, total) = engine(file, &mut list).expect("the engine's margin");
     let pairs = pairs_in(&list);
     for count in counts(pairs) {
@@ -291,7 +290,7 @@ fn apart_table(rounds: usize) {
     println!(" | apart / pairing | apart / margin |");
     println!("|---|---|---|---|---|---|---|");
     for shape in SHAPES.iter().filter(|shape| shape.pairs) {
-        let (file, mut list) = (&account(shape, 256), [Entry::default(); 256]);
+        let (file, mut list) = (&account(shape, 256), empty());
         engine(file, &mut list).expect("the engine's margin");
         let pairs = pairs_in(&list);
         let k = pairs.min(ALLOWANCE as usize);

@@ -21,7 +21,7 @@ const fn shape(name: &'static str, pairs: bool, series: usize, change: Change) -
     Shape { name, pairs, series, change }
 }
 
-pub const SHAPES: [Shape; 19] = [
+pub const SHAPES: [Shape; 21] = [
     shape("one strike for all", true, 1, |_, _, _, row| row.strike = 3100),
     shape("random strikes", true, 1, |_, _, _, _| ()),
     shape("ascending strikes", true, 1, |_, i, _, row| row.strike = 2900 + i),
@@ -63,6 +63,17 @@ pub const SHAPES: [Shape; 19] = [
         if i == 0 {
             // The nearest of all: no held limiter bars a pair with this row.
             *row = row.with_limiter(3300);
+        }
+    }),
+    shape("held rows blocked in part", true, 1, |_, _, _, row| {
+        if row.side == HELD {
+            row.quantity += 1;
+            row.blocked = row.quantity / 2;
+        }
+    }),
+    shape("nothing pairs: blocked", false, 1, |_, _, _, row| {
+        if row.side == HELD {
+            row.blocked = row.quantity;
         }
     }),
     shape("nothing pairs: limiters", false, 1, limiters),

@@ -10,19 +10,19 @@ use reference::day::apply_day;
 use reference::factors::factors;
 use reference::factors_list::codes_and_days;
 use reference::instalments::pair_into;
-use reference::lines::{margin_into, margin_into_by, Entry, Pairing};
+use reference::lines::{margin_into, margin_into_by, Pairing};
 use reference::position::written_unit_margin;
 use reference::random::Random;
 use reference::reader::read_account;
-use reference::sample::{limited_alike, sample_account, Shape};
+use reference::sample::{limited_alike, sample_account, some_blocked, Shape};
 
 use crate::day::{day_account, DAY};
 use crate::factors::Tables;
 use crate::instalments::{counts, ALLOWANCE};
-use crate::pairs_in;
 use crate::shapes::{account, SHAPES};
 use crate::small::{single_positions, small_accounts, KINDS};
 use crate::ways::{lanes, repeated_search, tournament};
+use crate::{empty, pairs_in};
 
 const WAYS: [(&str, Pairing); 3] = [
     ("repeated search", repeated_search::pairs),
@@ -32,11 +32,11 @@ const WAYS: [(&str, Pairing); 3] = [
 
 /// The number of pairs, which every way makes alike.
 fn pairs_made(file: &[u8], name: &str) -> usize {
-    let mut expected = [Entry::default(); 256];
+    let mut expected = empty();
     let answer = margin_into(file, &mut expected);
     assert!(answer.is_ok(), "{name}: {answer:?}");
     for (way, pairing) in WAYS {
-        let mut found = [Entry::default(); 256];
+        let mut found = empty();
         assert_eq!(margin_into_by(file, &mut found, pairing), answer, "{name}, {way}");
         assert!(found == expected, "{name}, {way}: other lines");
     }
@@ -77,7 +77,9 @@ fn on_random_accounts() {
         for _ in 0..count {
             let draft = sample_account(&mut random, &shape);
             pairs += pairs_made(&draft.bytes(), name);
-            pairs += pairs_made(&limited_alike(&mut random, draft).bytes(), name);
+            let limited = limited_alike(&mut random, draft);
+            pairs += pairs_made(&limited.bytes(), name);
+            pairs += pairs_made(&some_blocked(&mut random, limited).bytes(), name);
         }
         assert!(pairs > 2 * count, "{name}: {pairs} pairs");
     }
@@ -146,7 +148,7 @@ fn the_day_touches_about_half_of_the_barriers() {
 fn the_instalments_make_all_pairs() {
     for shape in SHAPES.iter().filter(|shape| shape.pairs) {
         let file = account(shape, 64);
-        let [mut whole, mut made] = [[Entry::default(); 256]; 2];
+        let [mut whole, mut made] = [empty(); 2];
         assert!(margin_into(&file, &mut whole).is_ok());
         let pairs = pairs_in(&whole);
         let numbers: Vec<u64> = counts(pairs)
@@ -157,4 +159,19 @@ fn the_instalments_make_all_pairs() {
         assert!(made[..pairs] == whole[..pairs], "{}", shape.name);
         assert_eq!(pairs_in(&made), pairs, "{}", shape.name);
     }
+}
+
+/// Of the shapes with blocked contracts one has a left line for every held row beside its pairs, and the other no pair.
+#[test]
+fn lines_of_blocked_contracts() {
+    let lines = |name: &str| {
+        let shape = SHAPES.iter().find(|shape| shape.name == name).expect(name);
+        let mut list = empty();
+        let (lines, _) = margin_into(&account(shape, 256), &mut list).expect("accepted");
+        let of_held = list[..lines].iter().filter(|line| line[0] == 2 && line[1] % 2 == 1);
+        (pairs_in(&list), of_held.count())
+    };
+    let (pairs, held) = lines("held rows blocked in part");
+    assert!(pairs > 100 && held == 128, "{pairs} {held}");
+    assert_eq!(lines("nothing pairs: blocked"), (0, 128));
 }

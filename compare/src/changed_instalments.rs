@@ -6,6 +6,7 @@ use reference::lines::{margin, pair_entry, premiums};
 use reference::reader::read_account;
 
 use crate::changed_apart;
+use crate::changed_blocked::{file_read, room_enough, without_blocked_premiums};
 use crate::changes::Change;
 use crate::implementation::{Answer, Implementation, Line};
 use crate::list::List;
@@ -26,7 +27,7 @@ pub fn answer(
 ) -> Answer {
     let call = asked(change, call);
     let before = list.clone();
-    let answer = of.call(file, list, call);
+    let answer = answer_of_blocked(change, of, file, list, call);
     if taken_all_the_same(change, file, list, call, answer) {
         return with_right_lines(of, file, list, call);
     }
@@ -42,6 +43,39 @@ pub fn answer(
             changed_apart::change_refused(change, list, (count, k), answer)
         }
         _ => change_refusal(change, list, call, answer),
+    }
+}
+
+/// The answer with the changes of blocked contracts and of the list's length.
+fn answer_of_blocked(
+    change: Change,
+    of: &dyn Implementation,
+    file: &[u8],
+    list: &mut List,
+    call: Call,
+) -> Answer {
+    let other = match (change, call) {
+        (Change::PairBlocked, Call::Pair { .. }) => file_read(Change::BlockedPaired, file),
+        _ => None,
+    };
+    let answer = of.call(other.as_deref().unwrap_or(file), list, call);
+    let own = match call {
+        Call::Pair { .. } => Change::PairRoomP,
+        Call::Amount { .. } => Change::SoFarRoomP,
+        Call::Apart { .. } => Change::ApartRoomP,
+    };
+    if answer.refusal == 12 && change == own && room_enough(Change::RoomP, file, list.room) {
+        let mut longer = list.with_room(2 * list.room);
+        let answer = of.call(file, &mut longer, call);
+        let room = list.room;
+        list.lines_mut().copy_from_slice(&longer.lines()[..room]);
+        return answer;
+    }
+    match (change, call, answer.refusal) {
+        (Change::SoFarWithoutBlocked, Call::Amount { .. }, 0) => {
+            without_blocked_premiums(file, answer)
+        }
+        _ => answer,
     }
 }
 

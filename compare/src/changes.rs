@@ -4,6 +4,7 @@ use reference::day::Day;
 use reference::instalment_cases::Call;
 
 use crate::changed_amounts::{change_amount, change_lines, up_to_real};
+use crate::changed_blocked;
 use crate::changed_days::{change_answer, change_applied, change_refused, day_asked, write_beside};
 use crate::changed_instalments;
 use crate::implementation::{Answer, Factors, Implementation, Line, Margin};
@@ -60,6 +61,29 @@ pub enum Change {
     DaySeriesCut,
     DayPricesCut,
     DayBeside,
+    BlockedPaired,
+    BlockedRefused,
+    BlockedAllRefused,
+    BlockedAboveQ,
+    BlockedAboveQSeven,
+    BlockedWritten,
+    BlockedWrittenEight,
+    BlockedBigEndian,
+    BlockedLowBits,
+    LeftWithoutBlocked,
+    LeftBlockedAlone,
+    LeftBlockedApart,
+    LeftOfSpentDropped,
+    LeftOfAllBlockedDropped,
+    LeftQ,
+    RoomP,
+    RoomOneLess,
+    RoomBlockedAlone,
+    RoomRefused,
+    AmountWithoutBlocked,
+    PremiumsWithoutBlocked,
+    DayBlocked,
+    DayBlockedTouched,
     PairAll,
     PairOneMore,
     PairOneAtMost,
@@ -91,6 +115,10 @@ pub enum Change {
     SoFarTotal,
     SoFarOnePairLess,
     SoFarWritesList,
+    PairBlocked,
+    PairRoomP,
+    SoFarRoomP,
+    SoFarWithoutBlocked,
     ApartAll,
     ApartZeroTakesOne,
     ApartKCut,
@@ -120,11 +148,12 @@ pub enum Change {
     ApartRefusalNumber,
     ApartOnRefusal,
     ApartOnOtherLines,
+    ApartRoomP,
     FileWritten,
     ReadingOutside,
 }
 
-pub const CHANGES: [(&str, Change); 111] = [
+pub const CHANGES: [(&str, Change); 139] = [
     ("total", Change::Total),
     ("line-count", Change::LineCount),
     ("line-amount", Change::LineAmount),
@@ -174,6 +203,29 @@ pub const CHANGES: [(&str, Change); 111] = [
     ("day-series-cut", Change::DaySeriesCut),
     ("day-prices-cut", Change::DayPricesCut),
     ("day-beside", Change::DayBeside),
+    ("blocked-paired", Change::BlockedPaired),
+    ("blocked-refused", Change::BlockedRefused),
+    ("blocked-all-refused", Change::BlockedAllRefused),
+    ("blocked-above-q", Change::BlockedAboveQ),
+    ("blocked-above-q-seven", Change::BlockedAboveQSeven),
+    ("blocked-written", Change::BlockedWritten),
+    ("blocked-written-eight", Change::BlockedWrittenEight),
+    ("blocked-big-endian", Change::BlockedBigEndian),
+    ("blocked-low-bits", Change::BlockedLowBits),
+    ("left-without-blocked", Change::LeftWithoutBlocked),
+    ("left-blocked-alone", Change::LeftBlockedAlone),
+    ("left-blocked-apart", Change::LeftBlockedApart),
+    ("left-of-spent-dropped", Change::LeftOfSpentDropped),
+    ("left-of-all-blocked-dropped", Change::LeftOfAllBlockedDropped),
+    ("left-q", Change::LeftQ),
+    ("room-p", Change::RoomP),
+    ("room-one-less", Change::RoomOneLess),
+    ("room-blocked-alone", Change::RoomBlockedAlone),
+    ("room-refused", Change::RoomRefused),
+    ("amount-without-blocked", Change::AmountWithoutBlocked),
+    ("premiums-without-blocked", Change::PremiumsWithoutBlocked),
+    ("day-blocked", Change::DayBlocked),
+    ("day-blocked-touched", Change::DayBlockedTouched),
     ("pair-all", Change::PairAll),
     ("pair-one-more", Change::PairOneMore),
     ("pair-one-at-most", Change::PairOneAtMost),
@@ -205,6 +257,10 @@ pub const CHANGES: [(&str, Change); 111] = [
     ("so-far-total", Change::SoFarTotal),
     ("so-far-one-pair-less", Change::SoFarOnePairLess),
     ("so-far-writes-list", Change::SoFarWritesList),
+    ("pair-blocked", Change::PairBlocked),
+    ("pair-room-p", Change::PairRoomP),
+    ("so-far-room-p", Change::SoFarRoomP),
+    ("so-far-without-blocked", Change::SoFarWithoutBlocked),
     ("apart-all", Change::ApartAll),
     ("apart-zero-takes-one", Change::ApartZeroTakesOne),
     ("apart-k-cut", Change::ApartKCut),
@@ -234,6 +290,7 @@ pub const CHANGES: [(&str, Change); 111] = [
     ("apart-refusal-number", Change::ApartRefusalNumber),
     ("apart-on-refusal", Change::ApartOnRefusal),
     ("apart-on-other-lines", Change::ApartOnOtherLines),
+    ("apart-room-p", Change::ApartRoomP),
     ("file-written", Change::FileWritten),
     ("reading-outside", Change::ReadingOutside),
 ];
@@ -251,8 +308,12 @@ pub struct Changed<'a> {
 impl Implementation for Changed<'_> {
     fn margin(&self, file: &[u8], entries: &mut [Line], room: usize) -> Margin {
         touch(file, self.change);
-        let mut margin = self.of.margin(file, entries, room);
+        let mut margin = self.margin_of_blocked(file, entries, room);
         let lines = margin.lines as usize;
+        if lines > room {
+            // Of a list too short for them, which the change has taken.
+            return margin;
+        }
         if margin.refusal == 0 {
             change_lines(self.change, file, &mut margin, entries);
             change_accepted(self.change, &mut margin, entries);
@@ -274,6 +335,9 @@ impl Implementation for Changed<'_> {
         match (self.change, self.of.position_amount(file, row)) {
             (Change::Amount, amount) if amount > 0 => amount - 1,
             (Change::MissingRow, -13) => 0,
+            (Change::AmountWithoutBlocked, amount) => {
+                changed_blocked::change_amount(self.change, file, row, amount)
+            }
             (change, amount) => change_amount(change, file, row, amount),
         }
     }
@@ -285,6 +349,9 @@ impl Implementation for Changed<'_> {
             Change::Premiums if answer.value > 0 => Answer { value: answer.value - 1, ..answer },
             Change::PremiumsRefused => Answer { refusal: 0, ..answer },
             Change::PremiumsInReais => Answer { value: up_to_real(answer.value), ..answer },
+            Change::PremiumsWithoutBlocked => {
+                changed_blocked::without_blocked_premiums(file, answer)
+            }
             _ => answer,
         }
     }
@@ -313,7 +380,10 @@ impl Implementation for Changed<'_> {
         let asked = day_asked(self.change, day);
         let answer = self.of.day(file, &asked);
         match answer.refusal {
-            0 => change_applied(self.change, &before, file, &asked),
+            0 => {
+                change_applied(self.change, &before, file, &asked);
+                changed_blocked::change_day(self.change, &before, file);
+            }
             _ => change_refused(self.change, file),
         }
         if self.change == Change::DayBeside {
@@ -325,6 +395,29 @@ impl Implementation for Changed<'_> {
     fn call(&self, file: &[u8], list: &mut List, call: Call) -> Answer {
         touch(file, self.change);
         changed_instalments::answer(self.change, self.of, file, list, call)
+    }
+}
+
+impl Changed<'_> {
+    /// The margin with the changes of blocked contracts and of the list's length.
+    fn margin_of_blocked(&self, file: &[u8], entries: &mut [Line], room: usize) -> Margin {
+        let refused = |number: u64, row: u64| Margin { refusal: number, row, lines: 0, total: 0 };
+        if let Some(refusal) = changed_blocked::other_refusal(self.change, file) {
+            return refused(refusal.number as u64, refusal.row as u64);
+        }
+        let other = changed_blocked::file_read(self.change, file);
+        let file = other.as_deref().unwrap_or(file);
+        if changed_blocked::refuses_room(self.change, file, room) {
+            return refused(12, 0);
+        }
+        let mut margin = self.of.margin(file, entries, room);
+        if margin.refusal == 12 && changed_blocked::room_enough(self.change, file, room) {
+            margin = changed_blocked::margin_in(self.of, file, &mut entries[..room]);
+        } else if margin.refusal == 0 {
+            let list = &mut entries[..room];
+            changed_blocked::change_left_lines(self.change, file, &mut margin, list);
+        }
+        margin
     }
 }
 

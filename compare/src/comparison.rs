@@ -63,13 +63,10 @@ pub fn compare_file(
     summary: &mut Summary,
 ) -> Result<(), Box<Difference>> {
     let reading = read_account(&file.bytes);
-    let position_count = match &reading {
-        Ok(account) => Ok(account.positions.len()),
-        Err(refusal) => Err(*refusal),
-    };
+    let position_count = reading.as_ref().ok().map(|account| account.positions.len());
     let copies = lending.lend(&file.bytes);
     let mut turn = file.number as usize;
-    for (question, purpose) in questions(file.seed_of_questions, position_count.ok()) {
+    for (question, purpose) in questions(file.seed_of_questions, position_count) {
         turn += 1;
         let copy = copies[turn % 2];
         let expected = answer(reference, &file.bytes, question);
@@ -81,14 +78,14 @@ pub fn compare_file(
     }
     let bytes = &file.bytes;
     let mut asking = Asking { bytes, copies, turn, reference, library, summary: &mut *summary };
-    compare_instalments(&mut asking, file.seed_of_questions, position_count.ok())?;
+    compare_instalments(&mut asking, file.seed_of_questions, position_count)?;
     turn = asking.turn;
-    for day in days(file.seed_of_questions, reading.ok().as_ref()) {
+    for day in days(file.seed_of_questions, reading.as_ref().ok()) {
         turn += 1;
         let place = [Place::BehindForbidden, Place::BeforeForbidden][turn % 2];
         compare_day(&file.bytes, (day, place), reference, library, lending, summary)?;
     }
-    summary.add_file(file, position_count);
+    summary.add_file(file, &reading);
     Ok(())
 }
 

@@ -17,7 +17,7 @@ struct Damaged {
 /// Puts a fault in; false where the file has no place for it.
 type Fault = fn(&mut Random, &mut Damaged) -> bool;
 
-const FAULTS: [(i64, (&str, Fault)); 10] = [
+const FAULTS: [(i64, (&str, Fault)); 11] = [
     (15, ("bit anywhere", bit_anywhere)),
     (20, ("bit in the rows", bit_in_rows)),
     (5, ("bit in the trailer", bit_in_trailer)),
@@ -28,6 +28,7 @@ const FAULTS: [(i64, (&str, Fault)); 10] = [
     (7, ("bytes repeated", bytes_repeated)),
     (45, ("field at a boundary", field_at_boundary)),
     (10, ("counts changed", counts_changed)),
+    (10, ("number blocked", number_blocked)),
 ];
 
 pub fn damaged_file(random: &mut Random) -> (Vec<&'static str>, Vec<u8>) {
@@ -137,9 +138,9 @@ fn bytes_repeated(random: &mut Random, file: &mut Damaged) -> bool {
     true
 }
 
-/// Where each field of a row begins; the last number is where the row ends.
+/// Where each field of a row begins; the last number is where the row ends. The number blocked has three bytes.
 const SERIES_FIELDS: [usize; 10] = [0, 4, 8, 12, 16, 20, 21, 22, 23, 24];
-const POSITION_FIELDS: [usize; 14] = [0, 2, 3, 4, 5, 6, 7, 8, 12, 16, 20, 24, 28, 32];
+const POSITION_FIELDS: [usize; 12] = [0, 2, 3, 4, 5, 8, 12, 16, 20, 24, 28, 32];
 #[rustfmt::skip]
 const BOUNDARIES: [u32; 23] = [
     0, 1, 2, 3, 4, 5, 8, 16, 31, 32, 255, 256, 1_000, 1_001, 65_535, 99_999, 100_000, 999_999,
@@ -174,6 +175,18 @@ fn random_field(random: &mut Random, file: &Damaged, first: usize) -> (usize, us
         first + SERIES_BYTES * file.series + POSITION_BYTES * below(random, file.positions)
     };
     (row + fields[field], fields[field + 1] - fields[field])
+}
+
+/// The number blocked of a row of either side: about its Q, with one byte alone, or the largest.
+fn number_blocked(random: &mut Random, file: &mut Damaged) -> bool {
+    let (Some(first), true) = (file.first_row(), file.positions > 0) else { return false };
+    let row = first + SERIES_BYTES * file.series + POSITION_BYTES * below(random, file.positions);
+    let quantity = u32::from_le_bytes(file.bytes[row + 8..row + 12].try_into().expect("Q"));
+    let one_byte = (random.between(1, 255) as u32) << (8 * random.between(0, 2));
+    let beside = quantity.wrapping_add(random.pick(&[0, 1, u32::MAX, 256, 65_536]));
+    let number = weighted(random, &[(60, beside), (30, one_byte), (10, 0xFF_FFFF)]);
+    file.bytes[row + 5..row + 8].copy_from_slice(&number.to_le_bytes()[..3]);
+    true
 }
 
 /// Other counts, with the distance made to fit them.

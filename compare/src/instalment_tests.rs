@@ -35,15 +35,15 @@ impl Counting {
         let Ok(account) = read_account(file) else {
             return self.count(Some("a refused file"));
         };
-        let rows = account.positions.len();
+        let needed = 2 * account.positions.len();
         let mut half = HalfPaired::begun(account);
         let pairs = half.make(u64::MAX);
         let lines: Vec<Line> = half.pairs.iter().map(pair_entry).collect();
         if let Call::Apart { count, k } = call {
-            return self.count(sort_of_apart(&lines, list, rows, (count, k)));
+            return self.count(sort_of_apart(&lines, list, needed, (count, k)));
         }
         let count = call.count();
-        if list.len() < rows {
+        if list.len() < needed {
             return self.count(Some(if count == 0 { "short" } else { "short, with a count" }));
         }
         if count > pairs {
@@ -89,11 +89,11 @@ fn sort_of_line(line: &Line, entry: &Line, at: usize) -> Option<&'static str> {
 fn sort_of_apart(
     lines: &[Line],
     list: &[Line],
-    rows: usize,
+    needed: usize,
     (count, k): (u64, u64),
 ) -> Option<&'static str> {
     let (pairs, above) = (lines.len() as u64, k > count);
-    if list.len() < rows {
+    if list.len() < needed {
         return Some(if above { "short, k above" } else { "short, taken apart" });
     }
     if count > pairs {

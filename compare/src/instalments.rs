@@ -34,7 +34,7 @@ pub fn compare_instalments(
     if p >= MANY_ROWS && random.chance(75) {
         return Ok(());
     }
-    let mut list = List::marked(p + random.pick(&[0, 0, 1, 5]));
+    let mut list = List::marked(2 * p + random.pick(&[0, 0, 1, 5]));
     let count = made_in_instalments(asking, &mut random, &mut list, p)?;
     taken_apart(asking, &mut random, &mut list, count, p)?;
     let mut others = spoiled(&mut random, &list, count);
@@ -205,9 +205,11 @@ fn count_above(random: &mut Random, list: &List, count: u64) -> Spoiled {
     Spoiled { list, calls: calls(count, allowance, any_k(random, count)) }
 }
 
-/// A list of fewer entries than the account has rows, of which there may be none; the count may be wrong too.
+/// A list of fewer than 2 × p entries, of which there may be none; the count may be wrong too.
 fn short(random: &mut Random, list: &List, p: usize) -> Spoiled {
-    let room = random.between(0, (p as i64 - 1).max(0)) as usize;
+    let most = (2 * p).saturating_sub(1);
+    let any = random.between(0, most as i64) as usize;
+    let room = weighted(random, &[(50, any), (25, most), (25, p.min(most))]);
     let any = random.draw();
     let count = random.pick(&[0, 1, room as u64, p as u64, any]);
     let calls = calls(count, 1, any_k(random, count));

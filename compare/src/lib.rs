@@ -13,11 +13,12 @@
 //! 9. [`lending`]: the memory in which the library gets a file
 //! 10. [`comparison`]: both answers to each question
 //! 11. [`summary`]: what was compared
-//! 12. [`changes`], [`changed_amounts`], [`changed_days`], [`changed_instalments`] and [`changed_apart`]: deliberately
-//!     changed answers, to see that they are found
+//! 12. [`changes`], [`changed_amounts`], [`changed_days`], [`changed_instalments`], [`changed_apart`] and
+//!     [`changed_blocked`]: deliberately changed answers, to see that they are found
 
 pub mod changed_amounts;
 pub mod changed_apart;
+pub mod changed_blocked;
 pub mod changed_days;
 pub mod changed_instalments;
 pub mod changes;
@@ -35,6 +36,8 @@ pub mod random_files;
 pub mod structured;
 pub mod summary;
 
+#[cfg(test)]
+mod blocked_tests;
 #[cfg(test)]
 mod instalment_tests;
 #[cfg(test)]

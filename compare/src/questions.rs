@@ -28,6 +28,9 @@ pub type Purpose = (Question, &'static str);
 /// All rows are asked for, and both large enough lists are tried, up to this many rows.
 const FEW_ROWS: usize = 12;
 
+/// Entries of a list that is long enough for every account.
+const ENOUGH: usize = library::LONGEST_LIST;
+
 /// What is asked about a file. The position count is given where the file is accepted.
 pub fn questions(seed: u64, position_count: Option<usize>) -> Vec<Purpose> {
     let mut random = Random::new(seed);
@@ -41,21 +44,9 @@ pub fn questions(seed: u64, position_count: Option<usize>) -> Vec<Purpose> {
     asked
 }
 
-/// With p = 0 there is no row to ask for, and the list of p entries is empty.
+/// With p = 0 there is no row to ask for.
 fn of_accepted(random: &mut Random, p: usize) -> Vec<Purpose> {
-    let mut asked = Vec::new();
-    let exactly = random.chance(50);
-    if p <= FEW_ROWS || exactly {
-        asked.push((Question::Margin { room: p }, "room p"));
-    }
-    if p <= FEW_ROWS || !exactly {
-        let room = p + random.between(1, 9) as usize;
-        asked.push((Question::Margin { room }, "room above p"));
-    }
-    if p > 1 {
-        let room = random.between(1, p as i64 - 1) as usize;
-        asked.push((Question::Margin { room }, "room below p"));
-    }
+    let mut asked = lists(random, p);
     let end = p as u64;
     if p <= FEW_ROWS {
         asked.extend((0..end).map(|row| (Question::Amount { row }, "row")));
@@ -71,8 +62,33 @@ fn of_accepted(random: &mut Random, p: usize) -> Vec<Purpose> {
     asked
 }
 
+/// Lists of 2 × p entries, of more and of fewer (document 02 [9]). With p = 0 that of 2 × p is empty, and none is too
+/// short.
+fn lists(random: &mut Random, p: usize) -> Vec<Purpose> {
+    let mut asked = Vec::new();
+    let needed = 2 * p;
+    let exactly = random.chance(50);
+    if p <= FEW_ROWS || exactly {
+        asked.push((Question::Margin { room: needed }, "room 2p"));
+    }
+    if p <= FEW_ROWS || !exactly {
+        let few = needed + random.between(1, 9) as usize;
+        let room = if random.chance(5) { ENOUGH.max(few) } else { few };
+        asked.push((Question::Margin { room }, "room above 2p"));
+    }
+    if p > 0 {
+        let any = random.between(1, needed as i64 - 1) as usize;
+        asked.extend([
+            (Question::Margin { room: needed - 1 }, "room 2p - 1"),
+            (Question::Margin { room: p }, "room p"),
+            (Question::Margin { room: any }, "room below 2p"),
+        ]);
+    }
+    asked
+}
+
 fn of_refused(random: &mut Random) -> Vec<Purpose> {
-    let room = if random.chance(3) { 256 } else { random.between(1, 8) as usize };
+    let room = if random.chance(3) { ENOUGH } else { random.between(1, 8) as usize };
     let any = random.draw();
     let row = random.pick(&[1, 255, any, u64::MAX]);
     vec![

@@ -96,6 +96,15 @@ fn spare(random: &mut Random) -> [u8; 3] {
     bytes
 }
 
+/// Often some contracts of a held row, now and then one more than it has; seldom any of a written one.
+fn blocked(random: &mut Random, row: &PositionDraft) -> u32 {
+    match (row.side, random.between(0, 99)) {
+        (HELD, 0..=49) => about(random, 0, row.quantity.into()) & 0xFF_FFFF,
+        (_, 99) => 1 << random.between(0, 23),
+        _ => 0,
+    }
+}
+
 fn random_position(random: &mut Random, all_series: &[SeriesDraft]) -> PositionDraft {
     let number = random.between(0, all_series.len() as i64 - 1);
     let pv = all_series[number as usize].pv as i64;
@@ -106,7 +115,7 @@ fn random_position(random: &mut Random, all_series: &[SeriesDraft]) -> PositionD
         row.series = all_series.len() as u16;
     }
     row.flags = random.pick(&[4, 4, 4, 8, 12, 0]);
-    row.spare = spare(random);
+    row.blocked = blocked(random, &row);
     if row.side == HELD || random.chance(1) {
         row.premium = about(random, 0, HIGHEST);
     }

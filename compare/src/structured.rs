@@ -1,9 +1,12 @@
 //! Accepted accounts of various shapes, with cover sheets. In many of them limiters stand at and
-//! beside each other, and in many some knock-outs were touched on an earlier day.
+//! beside each other, in many some knock-outs were touched on an earlier day, and in about half
+//! contracts of held rows are blocked.
 
 use reference::draft::Draft;
 use reference::random::Random;
-use reference::sample::{limited_alike, sample_account, sample_series, some_knocked_out, Shape};
+use reference::sample::{
+    limited_alike, sample_account, sample_series, some_blocked, some_knocked_out, Shape,
+};
 
 use crate::files::{random_bytes, weighted, LONGEST_FILE};
 
@@ -66,6 +69,9 @@ pub fn structured_draft(random: &mut Random) -> (&'static str, Draft) {
     }
     if random.chance(40) {
         draft = some_knocked_out(random, draft);
+    }
+    if random.chance(50) {
+        draft = some_blocked(random, draft);
     }
     draft.cover = cover_sheet(random, &draft, &shape);
     (name, draft)

@@ -3,6 +3,7 @@
 use std::collections::BTreeMap;
 use std::fmt;
 
+use reference::account::Account;
 use reference::instalment_cases::Call;
 use reference::reader::Refusal;
 
@@ -23,8 +24,9 @@ pub struct Summary {
     faults: [u64; 5],
     /// By number of refusal, 0 where the file was accepted.
     outcomes: [u64; 12],
-    /// Of the accepted files, those without positions.
+    /// Of the accepted files, those without positions, and those with blocked contracts.
     without_positions: u64,
+    with_blocked: u64,
     margin_calls: Tally,
     amount_calls: Tally,
     premium_calls: u64,
@@ -50,12 +52,15 @@ impl Tally {
 }
 
 impl Summary {
-    /// The reading gives the position count, or the refusal.
-    pub fn add_file(&mut self, file: &File, reading: Result<usize, Refusal>) {
+    pub fn add_file(&mut self, file: &File, reading: &Result<Account, Refusal>) {
         self.files += 1;
         self.families.add(file.family.name());
-        self.outcomes[reading.map_or_else(|refusal| refusal.number as usize, |_| 0)] += 1;
-        self.without_positions += u64::from(reading == Ok(0));
+        let outcome = reading.as_ref().map_or_else(|refusal| refusal.number as usize, |_| 0);
+        self.outcomes[outcome] += 1;
+        if let Ok(Account { positions, .. }) = reading {
+            self.without_positions += u64::from(positions.is_empty());
+            self.with_blocked += u64::from(positions.iter().any(|p| p.blocked > 0));
+        }
         let kinds = match file.family {
             Family::Random => &mut self.random,
             Family::Structured => &mut self.structured,
@@ -118,8 +123,9 @@ impl fmt::Display for Summary {
         writeln!(out, "faults put in: {}", self.damage)?;
         let [_, one, two, three, four] = self.faults;
         writeln!(out, "faults in a file: 1: {one}; 2: {two}; 3: {three}; 4: {four}")?;
-        let (accepted, without) = (self.outcomes[0], self.without_positions);
-        write!(out, "accepted: {accepted}, without positions: {without}; refused")?;
+        write!(out, "accepted: {}", self.outcomes[0])?;
+        let (without, with) = (self.without_positions, self.with_blocked);
+        write!(out, ", without positions: {without}, with blocked contracts: {with}; refused")?;
         // Number 3 is given for nothing.
         for number in [1, 2, 4, 5, 6, 7, 8, 9, 10, 11] {
             let count = self.outcomes[number];

@@ -164,8 +164,9 @@ fn limiters_stand_on_both_sides_of_pairs() {
 
 /// The lines of an accepted file, each with its amount before it is rounded.
 fn exact_lines(account: &Account, bytes: &[u8]) -> Vec<(Line, Exact)> {
-    let mut entries = vec![[0; 5]; account.positions.len()];
-    let lines = Reference.margin(bytes, &mut entries, account.positions.len()).lines;
+    let room = 2 * account.positions.len();
+    let mut entries = vec![[0; 5]; room];
+    let lines = Reference.margin(bytes, &mut entries, room).lines;
     entries.truncate(lines as usize);
     entries.into_iter().map(|line| (line, exact_of_line(account, &line).1)).collect()
 }
@@ -234,8 +235,9 @@ fn an_account_without_rows_is_asked_about() {
         let count = |question, purpose| asked.iter().filter(|a| **a == (question, purpose)).count();
         assert_eq!(asked.len(), 7);
         assert_eq!(count(Question::Margin { room: 0 }, "no room"), 1);
-        assert_eq!(count(Question::Margin { room: 0 }, "room p"), 1);
-        let above = (1..=9).map(|room| count(Question::Margin { room }, "room above p"));
+        assert_eq!(count(Question::Margin { room: 0 }, "room 2p"), 1);
+        let above =
+            (1..=9).chain([512]).map(|room| count(Question::Margin { room }, "room above 2p"));
         assert_eq!(above.sum::<usize>(), 1);
         for row in [0, 1, u64::MAX] {
             assert_eq!(count(Question::Amount { row }, "no such row"), 1);
@@ -247,7 +249,7 @@ fn an_account_without_rows_is_asked_about() {
 #[test]
 fn damaged_files_are_accepted_or_refused_with_every_number() {
     assert_eq!(outcomes(Family::Damaged, 20_000), every_outcome());
-    assert_eq!(kinds(Family::Damaged, 20_000).len(), 10);
+    assert_eq!(kinds(Family::Damaged, 20_000).len(), 11);
     let counts: BTreeSet<usize> = files_of(Family::Damaged, 500).map(|f| f.kinds.len()).collect();
     assert_eq!(counts, (1..=4).collect());
 }
@@ -358,6 +360,7 @@ fn the_reference_does_not_differ_from_itself() {
     // 7,204 that are given, 170 that are not, and one with each file.
     assert!(text.contains("\nserpentgleam_factors: 10374 calls: given: "));
     assert!(text.contains("\nserpentgleam_day: "));
+    assert!(text.contains(", with blocked contracts: "));
 }
 
 #[test]

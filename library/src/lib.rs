@@ -2,6 +2,9 @@
 
 use std::ptr::{null, null_mut};
 
+/// Entries of a list that is long enough for every account: two for each of 256 positions.
+pub const LONGEST_LIST: usize = 512;
+
 /// `struct serpentgleam_line`: kind, first, second, third, fourth.
 pub type Line = [u64; 5];
 

@@ -108,6 +108,8 @@ pub struct Position {
     pub opened_before_annex: bool,
     /// Q, contracts.
     pub quantity: i64,
+    /// Of those the ones pledged elsewhere (document 02 [9]); 0 on a written row.
+    pub blocked: i64,
     /// PE.
     pub strike: i64,
     /// REB.
@@ -143,6 +145,12 @@ impl Position {
         } else {
             of_row
         }
+    }
+
+    /// The contracts that pairs may use. Document 02 [9]: "Pairs use at most Q
+    /// less the blocked."
+    pub fn free(&self) -> i64 {
+        self.quantity - self.blocked
     }
 
     /// May this row stand in a pair at all? Asked of each row by itself.

@@ -22,7 +22,8 @@ pub struct PositionDraft {
     pub side: u8,
     pub kind: u8,
     pub flags: u8,
-    pub spare: [u8; 3],
+    /// Of 24 bits (document 02 [9]); what a written row has there is refused.
+    pub blocked: u32,
     pub quantity: u32,
     pub strike: u32,
     pub limiter: u32,
@@ -92,7 +93,7 @@ impl PositionDraft {
             side,
             kind: NO_BARRIER,
             flags: FLAG_EUROPEAN,
-            spare: [0; 3],
+            blocked: 0,
             quantity,
             strike,
             limiter: 0,
@@ -117,6 +118,12 @@ impl PositionDraft {
 
     pub fn with_premium(mut self, premium: u32) -> PositionDraft {
         self.premium = premium;
+        self
+    }
+
+    /// So many contracts pledged elsewhere.
+    pub fn with_blocked(mut self, blocked: u32) -> PositionDraft {
+        self.blocked = blocked;
         self
     }
 
@@ -150,7 +157,7 @@ impl PositionDraft {
         bytes.push(self.side);
         bytes.push(self.kind);
         bytes.push(self.flags);
-        bytes.extend(self.spare);
+        bytes.extend(&self.blocked.to_le_bytes()[..3]);
         for field in
             [self.quantity, self.strike, self.limiter, self.barrier, self.rebate, self.premium]
         {

@@ -7,7 +7,7 @@
 //! and their entries become all zeros. The count falls by k."
 
 use crate::account::Account;
-use crate::lines::{margin_with, pair_entry, Entry};
+use crate::lines::{list_long_enough, margin_with, pair_entry, Entry};
 use crate::pairing::{contracts, make_pair, next_pair, Pair};
 use crate::reader::{read_account, Refusal};
 
@@ -17,7 +17,7 @@ pub struct HalfPaired {
     pub account: Account,
     /// Pairs as made.
     pub pairs: Vec<Pair>,
-    /// The contracts left in each row after them.
+    /// The contracts of each row that pairs may still use after them.
     pub contracts_left: Vec<i64>,
 }
 
@@ -64,9 +64,7 @@ impl HalfPaired {
 /// not the account's first pairs.
 fn read_half_paired(bytes: &[u8], list: &[Entry], count: u64) -> Result<HalfPaired, Refusal> {
     let account = read_account(bytes)?;
-    if list.len() < account.positions.len() {
-        return Err(Refusal { number: 12, row: 0 });
-    }
+    list_long_enough(&account, list)?;
     let mut half = HalfPaired::begun(account);
     let made = half.make(count);
     // There are fewer pairs than positions, and so no more than entries.

@@ -17,7 +17,7 @@ pub struct Left {
 pub struct Margin {
     /// Pairs as made.
     pub pairs: Vec<Pair>,
-    /// Rows with contracts left, in row order.
+    /// Rows with contracts left, blocked or not, in row order.
     pub left: Vec<Left>,
     /// Premium × M × Q of every held row, paired or not.
     pub premium: i64,
@@ -40,7 +40,8 @@ pub fn margin_by(account: &Account, pairing: Pairing) -> Margin {
     margin_with(account, pairs, &contracts_left)
 }
 
-/// Rows left, premium and total with these pairs made.
+/// Rows left, premium and total with these pairs made, and so many contracts of
+/// each row left that pairs may still use.
 pub fn margin_with(account: &Account, pairs: Vec<Pair>, contracts_left: &[i64]) -> Margin {
     let left = rows_left(account, contracts_left);
     let premium = (0..account.positions.len()).map(|row| premium_amount(account, row)).sum();
@@ -50,11 +51,12 @@ pub fn margin_with(account: &Account, pairs: Vec<Pair>, contracts_left: &[i64]) 
     Margin { pairs, left, premium, total }
 }
 
-/// Rows with contracts left, in row order.
+/// Rows with contracts left, in row order. Given are those that pairs may still
+/// use; document 02 [9]: "The left line of a held row counts blocked ones too."
 pub fn rows_left(account: &Account, contracts_left: &[i64]) -> Vec<Left> {
     let mut left = Vec::with_capacity(contracts_left.len());
     for (row, position) in account.positions.iter().enumerate() {
-        let quantity = contracts_left[row];
+        let quantity = contracts_left[row] + position.blocked;
         if quantity == 0 {
             continue;
         }
@@ -101,9 +103,17 @@ pub fn pair_entry(p: &Pair) -> Entry {
     [1, p.written as u64, p.held as u64, p.quantity as u64, p.amount as u64]
 }
 
+/// 12: the list has fewer than 2 × p entries (document 02 [9]).
+pub fn list_long_enough(account: &Account, list: &[Entry]) -> Result<(), Refusal> {
+    if list.len() < 2 * account.positions.len() {
+        return Err(Refusal { number: 12, row: 0 });
+    }
+    Ok(())
+}
+
 /// Line count and total, with the lines written to the caller's list. Entries
 /// after the line count stay, and on a refusal the whole list stays. The file
-/// comes first; a list with fewer than p entries is refusal 12.
+/// comes first, then the list's length.
 pub fn margin_into(bytes: &[u8], list: &mut [Entry]) -> Result<(usize, i64), Refusal> {
     margin_into_by(bytes, list, repeated_choice)
 }
@@ -115,9 +125,7 @@ pub fn margin_into_by(
     pairing: Pairing,
 ) -> Result<(usize, i64), Refusal> {
     let account = read_account(bytes)?;
-    if list.len() < account.positions.len() {
-        return Err(Refusal { number: 12, row: 0 });
-    }
+    list_long_enough(&account, list)?;
     let answer = margin_by(&account, pairing);
     let pairs = answer.pairs.iter().map(pair_entry);
     let left = answer.left.iter().map(|l| [2, l.row as u64, l.quantity as u64, l.amount as u64, 0]);

@@ -37,7 +37,8 @@ pub fn allowed_spread(account: &Account, written: usize, held: usize) -> Option<
 /// Of the pairs allowed with these contracts left: the least strike
 /// difference without sign, then the lowest written row, then the lowest held
 /// row. All series together. Gives written row, held row and unit spread
-/// margin.
+/// margin. Document 02 [9]: "for pairing [...] a held row has contracts left
+/// only while some of these are unused", those that are not blocked.
 pub fn next_pair(account: &Account, contracts_left: &[i64]) -> Option<(usize, usize, i64)> {
     let mut best: Option<(i64, usize, usize, i64)> = None;
     // Rows are tried in rising order, so that a later pair has to be better
@@ -80,9 +81,9 @@ pub fn make_pair(
     Pair { written, held, quantity, amount }
 }
 
-/// The contracts of each row that pairs may use.
+/// The contracts of each row that pairs may use: none of the blocked ones.
 pub fn contracts(account: &Account) -> Vec<i64> {
-    account.positions.iter().map(|position| position.quantity).collect()
+    account.positions.iter().map(|position| position.free()).collect()
 }
 
 /// All pairs as made, until none is allowed.

@@ -1,7 +1,7 @@
 //! A position row: 32 bytes to the position, or the first of refusals 7 to 11.
 
 use crate::account::{Barrier, Limiter, OptionType, Position, Series, Side};
-use crate::reader::{u16_at, u32_at, within, HIGHEST_PRICE};
+use crate::reader::{u16_at, u24_at, u32_at, within, HIGHEST_PRICE};
 
 pub const FLAG_KNOCKED_IN: u8 = 1;
 pub const FLAG_LIMITER: u8 = 2;
@@ -15,7 +15,7 @@ struct Fields {
     side: u8,
     kind: u8,
     flags: u8,
-    spare_bytes_zero: bool,
+    blocked: i64,
     quantity: i64,
     strike: i64,
     limiter_price: i64,
@@ -45,7 +45,7 @@ pub fn read_position(row: &[u8], all_series: &[Series]) -> Result<Position, i64>
     }
     Ok(Position {
         series: fields.series,
-        side: if fields.side == 1 { Side::Written } else { Side::Held },
+        side: if fields.is_written() { Side::Written } else { Side::Held },
         barrier: fields.barrier(),
         limiter: fields.limiter(),
         already_knocked_in: fields.already_knocked_in(),
@@ -53,6 +53,7 @@ pub fn read_position(row: &[u8], all_series: &[Series]) -> Result<Position, i64>
         european: fields.flag(FLAG_EUROPEAN),
         opened_before_annex: fields.flag(FLAG_BEFORE_ANNEX),
         quantity: fields.quantity,
+        blocked: fields.blocked,
         strike: fields.strike,
         rebate: fields.rebate,
         premium: fields.premium,
@@ -66,7 +67,7 @@ impl Fields {
             side: row[2],
             kind: row[3],
             flags: row[4],
-            spare_bytes_zero: row[5..8] == [0, 0, 0],
+            blocked: u24_at(row, 5),
             quantity: u32_at(row, 8),
             strike: u32_at(row, 12),
             limiter_price: u32_at(row, 16),
@@ -88,13 +89,18 @@ impl Fields {
         self.flag(FLAG_KNOCKED_OUT)
     }
 
-    /// 7: series, side, kind, flags or a spare byte wrong.
+    fn is_written(&self) -> bool {
+        self.side == 1
+    }
+
+    /// 7: series, side, kind, flags or a spare byte wrong. The spare bytes of a
+    /// held row are the number blocked (document 02 [9]), and looked at with 8.
     fn codes_right(&self, series_count: usize) -> bool {
         self.series < series_count
             && self.side <= 1
             && self.kind <= 4
             && self.flags_right()
-            && self.spare_bytes_zero
+            && (!self.is_written() || self.blocked == 0)
     }
 
     /// Flag 1 with kinds 1 and 2 only, flag 16 with kinds 3 and 4 only; bits
@@ -109,13 +115,14 @@ impl Fields {
             && (!self.already_knocked_out() || may_be_knocked_out)
     }
 
-    /// 8: Q, PE, REB or premium wrong.
+    /// 8: Q, PE, REB or premium wrong, or more than Q blocked.
     fn numbers_right(&self) -> bool {
-        let highest_premium = if self.side == 1 { 0 } else { HIGHEST_PRICE };
+        let highest_premium = if self.is_written() { 0 } else { HIGHEST_PRICE };
         within(1, self.quantity, 100_000)
             && within(1, self.strike, HIGHEST_PRICE)
             && within(0, self.rebate, HIGHEST_PRICE)
             && within(0, self.premium, highest_premium)
+            && self.blocked <= self.quantity
     }
 
     /// 9: PB wrong.

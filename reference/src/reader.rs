@@ -112,6 +112,10 @@ pub(crate) fn u16_at(bytes: &[u8], at: usize) -> usize {
     u16::from_le_bytes([bytes[at], bytes[at + 1]]) as usize
 }
 
+pub(crate) fn u24_at(bytes: &[u8], at: usize) -> i64 {
+    u32::from_le_bytes([bytes[at], bytes[at + 1], bytes[at + 2], 0]) as i64
+}
+
 pub(crate) fn u32_at(bytes: &[u8], at: usize) -> i64 {
     u32::from_le_bytes([bytes[at], bytes[at + 1], bytes[at + 2], bytes[at + 3]]) as i64
 }

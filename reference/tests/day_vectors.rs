@@ -43,7 +43,7 @@ fn every_day_is_applied_or_refused_as_it_was_made() {
 #[test]
 fn every_refusal() {
     let cases = all_days();
-    assert_eq!(cases.len(), 524);
+    assert_eq!(cases.len(), 553);
     for number in [1, 2, 4, 5, 6, 7, 8, 9, 10, 11] {
         let found: Vec<(bool, bool, usize)> = cases
             .iter()

@@ -244,7 +244,7 @@ fn the_stored_files_are_up_to_date() {
         std::fs::read(folder.to_string() + name).expect(name)
     };
     let cases = all_instalments();
-    assert_eq!(cases.len(), 631);
+    assert_eq!(cases.len(), 735);
     assert!(stored("cases") == cases_bytes(&cases));
     assert!(stored("answers") == answers_text(&cases).into_bytes());
 }

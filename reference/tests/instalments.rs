@@ -2,7 +2,7 @@
 
 mod example_lines;
 
-use example_lines::{FIRST, LEFT, SECOND, UNTOUCHED};
+use example_lines::{list_with, FIRST, LEFT, NEEDED, SECOND, UNTOUCHED};
 use reference::account::Account;
 use reference::draft::{example, file, held, written, Draft, SeriesDraft, CALL, PUT};
 use reference::instalments::{amount_so_far, pair_into, take_apart_in, HalfPaired};
@@ -37,7 +37,7 @@ fn refusal(bytes: &[u8], list: &[Entry], count: u64) -> (i64, usize) {
 /// The account's amount after each number of pairs, made one by one.
 fn amounts(bytes: &[u8]) -> Vec<i64> {
     let rows = read_account(bytes).expect("accepted").positions.len();
-    let mut list = vec![UNTOUCHED; rows];
+    let mut list = vec![UNTOUCHED; 2 * rows];
     let mut amounts = Vec::new();
     for count in 0.. {
         amounts.push(amount_so_far(bytes, &list, count).expect("an amount"));
@@ -66,23 +66,26 @@ fn random_files(seed: u64, count: usize) -> Vec<(Vec<u8>, Account)> {
 fn the_documents_example() {
     let bytes = example().bytes();
     assert_eq!(amounts(&bytes), [25_000 + 300, 17_500 + 300, 7_500 + 3_000 + 300]);
-    let mut list = [UNTOUCHED; 5];
-    assert_eq!(pair_into(&bytes, &mut list[..3], 0, 1), Ok(1));
-    assert_eq!(list, [FIRST, UNTOUCHED, UNTOUCHED, UNTOUCHED, UNTOUCHED]);
-    assert_eq!(pair_into(&bytes, &mut list[..3], 1, 1), Ok(1));
-    assert_eq!(list, [FIRST, SECOND, UNTOUCHED, UNTOUCHED, UNTOUCHED]);
-    // No left line is written, not even when no pair is allowed any more.
-    assert_eq!(pair_into(&bytes, &mut list[..3], 2, 1), Ok(0));
-    assert_eq!(list, [FIRST, SECOND, UNTOUCHED, UNTOUCHED, UNTOUCHED]);
+    let mut list = [UNTOUCHED; NEEDED + 2];
+    for (count, made, lines) in [
+        (0, 1, &[FIRST][..]),
+        (1, 1, &[FIRST, SECOND]),
+        // No left line is written, not even when no pair is allowed any more.
+        (2, 0, &[FIRST, SECOND]),
+    ] {
+        assert_eq!(pair_into(&bytes, &mut list[..NEEDED], count, 1), Ok(made));
+        assert_eq!(list[..NEEDED], list_with(lines));
+        assert_eq!(list[NEEDED..], [UNTOUCHED; 2]);
+    }
 }
 
 #[test]
 fn an_allowance_of_zero_makes_none() {
     let bytes = example().bytes();
-    let mut list = [FIRST, SECOND, UNTOUCHED];
+    let mut list = list_with(&[FIRST, SECOND]);
     for count in 0..=2 {
         assert_eq!(pair_into(&bytes, &mut list, count, 0), Ok(0));
-        assert_eq!(list, [FIRST, SECOND, UNTOUCHED]);
+        assert_eq!(list, list_with(&[FIRST, SECOND]));
     }
 }
 
@@ -92,10 +95,9 @@ fn allowances_up_to_the_largest_number() {
     let bytes = example().bytes();
     for (count, rest) in [(0, 2), (1, 1), (2, 0)] {
         for allowance in [2, 3, 256, 1 << 32, (1 << 32) + 1, 1 << 63, u64::MAX] {
-            let mut list = [FIRST, SECOND, UNTOUCHED];
-            list[count as usize..].fill(UNTOUCHED);
+            let mut list = list_with(&[FIRST, SECOND][..count as usize]);
             assert_eq!(pair_into(&bytes, &mut list, count, allowance), Ok(rest));
-            assert_eq!(list, [FIRST, SECOND, UNTOUCHED]);
+            assert_eq!(list, list_with(&[FIRST, SECOND]));
         }
     }
 }
@@ -109,7 +111,7 @@ fn every_list_of_allowances() {
     for (bytes, account) in random_files(1, 600) {
         let all = margin(&account).pairs;
         pairs += all.len();
-        let mut list: Vec<Entry> = vec![UNTOUCHED; account.positions.len() + 1];
+        let mut list: Vec<Entry> = vec![UNTOUCHED; 2 * account.positions.len() + 1];
         let (mut count, mut sum) = (0, 0u64);
         for _ in 0..6 {
             let largest = u64::MAX;
@@ -132,10 +134,10 @@ fn every_split_of_seven_pairs() {
     let mut rows = vec![written(3000, 50)];
     rows.extend((1..=7).map(|number| held(3000 + 10 * (number * 3 % 7), number)));
     let bytes = file(SeriesDraft::checked(CALL), &rows);
-    let mut at_once = [UNTOUCHED; 8];
+    let mut at_once = [UNTOUCHED; 16];
     assert_eq!(pair_into(&bytes, &mut at_once, 0, 7), Ok(7));
     for split in 0u64..1 << 6 {
-        let (mut list, mut count, mut allowance) = ([UNTOUCHED; 8], 0, 1);
+        let (mut list, mut count, mut allowance) = ([UNTOUCHED; 16], 0, 1);
         for bit in 0..7 {
             if bit == 6 || split >> bit & 1 == 1 {
                 assert_eq!(pair_into(&bytes, &mut list, count, allowance), Ok(allowance));
@@ -153,7 +155,7 @@ fn every_split_of_seven_pairs() {
 #[test]
 fn the_last_amount_is_the_total() {
     for (bytes, account) in random_files(2, 600) {
-        let mut list = vec![UNTOUCHED; account.positions.len()];
+        let mut list = vec![UNTOUCHED; 2 * account.positions.len()];
         let mut of_margin = list.clone();
         let (_, total) = margin_into(&bytes, &mut of_margin).expect("accepted");
         let pairs = pair_into(&bytes, &mut list, 0, u64::MAX).expect("paired");
@@ -207,10 +209,10 @@ fn premiums_and_held_remainders() {
 fn a_number_changed_in_one_of_the_lines() {
     let bytes = example().bytes();
     for (line, place) in (0..2).flat_map(|line| (0..5).map(move |place| (line, place))) {
-        let right = [FIRST, SECOND, LEFT];
+        let right = list_with(&[FIRST, SECOND, LEFT]);
         let number = right[line][place];
         for other in [number + 1, number.wrapping_sub(1), number ^ 1 << 32, !number] {
-            let mut list = right;
+            let mut list = right.clone();
             list[line][place] = other;
             for count in line as u64 + 1..=2 {
                 assert_eq!(refusal(&bytes, &list, count), (18, 0), "{line} {place} {other}");
@@ -235,7 +237,7 @@ fn other_lines() {
         [FIRST, [0; 5], LEFT],
         [UNTOUCHED, FIRST, SECOND],
     ] {
-        assert_eq!(refusal(&bytes, &list, 2), (18, 0));
+        assert_eq!(refusal(&bytes, &list_with(&list), 2), (18, 0));
     }
 }
 
@@ -244,17 +246,17 @@ fn other_lines() {
 fn a_count_above_the_pairs() {
     let bytes = example().bytes();
     for third in [LEFT, SECOND, UNTOUCHED, [0; 5]] {
-        let list = [FIRST, SECOND, third, third, third];
+        let list = [FIRST, SECOND, third, third, third, third, third, third];
         assert!(amount_so_far(&bytes, &list, 2).is_ok());
-        for count in [3, 4, 5, 6, 256, 257, 1 << 32, (1 << 32) + 2, 1 << 63, u64::MAX] {
+        for count in [3, 4, 6, 7, 8, 9, 256, 257, 1 << 32, (1 << 32) + 2, 1 << 63, u64::MAX] {
             assert_eq!(refusal(&bytes, &list, count), (18, 0), "{count}");
-            assert_eq!(refusal(&bytes, &list[..3], count), (18, 0), "{count}");
+            assert_eq!(refusal(&bytes, &list[..NEEDED], count), (18, 0), "{count}");
         }
     }
     // One row: no pair.
     let alone = file(SeriesDraft::checked(CALL), &[written(3000, 1)]);
     for count in [1, 2, u64::MAX] {
-        assert_eq!(refusal(&alone, &[[2, 0, 1, 3000, 0]], count), (18, 0));
+        assert_eq!(refusal(&alone, &[[2, 0, 1, 3000, 0]; 2], count), (18, 0));
     }
 }
 
@@ -264,15 +266,18 @@ fn the_order_of_refusals() {
     let mut wrong = example();
     wrong.positions[2].quantity = 0;
     for count in [0, 1, 2, 3, u64::MAX] {
-        for list in [&[][..], &[UNTOUCHED; 2], &[FIRST, SECOND, LEFT]] {
+        for list in [&[][..], &[UNTOUCHED; 2], &list_with(&[FIRST, SECOND, LEFT])] {
             assert_eq!(refusal(&wrong.bytes(), list, count), (8, 2));
             assert_eq!(refusal(&[], list, count), (1, 0));
         }
-        for list in [&[][..], &[FIRST], &[FIRST, SECOND], &[UNTOUCHED; 2]] {
-            assert_eq!(refusal(&example().bytes(), list, count), (12, 0));
+        let right = list_with(&[FIRST, SECOND, LEFT]);
+        for room in 0..NEEDED {
+            for list in [&right[..room], &[UNTOUCHED; NEEDED][..room]] {
+                assert_eq!(refusal(&example().bytes(), list, count), (12, 0), "room {room}");
+            }
         }
     }
-    assert_eq!(refusal(&example().bytes(), &[UNTOUCHED; 3], 1), (18, 0));
+    assert_eq!(refusal(&example().bytes(), &[UNTOUCHED; NEEDED], 1), (18, 0));
 }
 
 #[test]

@@ -245,27 +245,28 @@ fn ties() {
 #[test]
 fn lines_in_the_lent_list() {
     let untouched: Entry = [77; 5];
-    let mut list = [untouched; 5];
+    let mut list = [untouched; 8];
     assert_eq!(margin_into(&example().bytes(), &mut list), Ok((3, 10_800)));
-    assert_eq!(
-        list,
-        [[1, 0, 2, 3, 0], [1, 0, 1, 4, 3000], [2, 0, 3, 7500, 0], untouched, untouched]
-    );
+    assert_eq!(list[..3], [[1, 0, 2, 3, 0], [1, 0, 1, 4, 3000], [2, 0, 3, 7500, 0]]);
+    assert_eq!(list[3..], [untouched; 5]);
 }
 
 #[test]
 fn list_too_short() {
     let untouched: Entry = [77; 5];
-    let mut list = [untouched; 2];
+    let mut list = [untouched; 5];
     let bytes = example().bytes();
-    assert_eq!(margin_into(&bytes, &mut list), Err(Refusal { number: 12, row: 0 }));
-    assert_eq!(list, [untouched; 2]);
+    for room in 0..=5 {
+        let refused = Err(Refusal { number: 12, row: 0 });
+        assert_eq!(margin_into(&bytes, &mut list[..room]), refused, "{room}");
+        assert_eq!(list, [untouched; 5]);
+    }
     // The file comes before the list.
     assert_eq!(margin_into(&bytes[1..], &mut list), Err(Refusal { number: 4, row: 0 }));
     let mut wrong = example();
     wrong.positions[2].quantity = 0;
     assert_eq!(margin_into(&wrong.bytes(), &mut list), Err(Refusal { number: 8, row: 2 }));
-    assert_eq!(list, [untouched; 2]);
+    assert_eq!(list, [untouched; 5]);
 }
 
 #[test]

@@ -3,7 +3,7 @@
 
 mod example_lines;
 
-use example_lines::{FIRST, LEFT, SECOND, UNTOUCHED};
+use example_lines::{list_with, FIRST, LEFT, NEEDED, SECOND, UNTOUCHED};
 use reference::draft::{example, file, held, written, Draft, SeriesDraft, CALL, PUT};
 use reference::instalments::{amount_so_far, pair_into, take_apart_in, HalfPaired};
 use reference::lines::{margin, pair_entry, Entry};
@@ -65,9 +65,9 @@ fn the_documents_example() {
         (1, 1, [ZEROS, SECOND, LEFT]),
         (0, 0, [FIRST, SECOND, LEFT]),
     ] {
-        let mut list = [FIRST, SECOND, LEFT];
+        let mut list = list_with(&[FIRST, SECOND, LEFT]);
         assert_eq!(take_apart_in(&bytes, &mut list, count, k), Ok(count - k));
-        assert_eq!(list, after, "{k} of {count}");
+        assert_eq!(list, list_with(&after), "{k} of {count}");
     }
 }
 
@@ -81,9 +81,9 @@ fn other_entries_stay() {
     assert_eq!(lines.len(), 7);
     for behind in [UNTOUCHED, ZEROS, LEFT, lines[6], [u64::MAX; 5]] {
         for (count, k) in (0..=7).flat_map(|count| (0..=count).map(move |k| (count, k))) {
-            let before = [&lines[..count], &vec![behind; 11 - count]].concat();
+            let before = [&lines[..count], &vec![behind; 19 - count]].concat();
             let mut list = before.clone();
-            let left = take_apart_in(&bytes, &mut list[..9], count as u64, k as u64);
+            let left = take_apart_in(&bytes, &mut list[..17], count as u64, k as u64);
             assert_eq!(left, Ok((count - k) as u64));
             for (at, entry) in list.iter().enumerate() {
                 let removed = (count - k..count).contains(&at);
@@ -97,7 +97,7 @@ fn other_entries_stay() {
 fn k_above_the_count() {
     let bytes = example().bytes();
     for count in 0..=2 {
-        let mut list = [FIRST, SECOND, LEFT];
+        let mut list = list_with(&[FIRST, SECOND, LEFT]);
         let mut ks = vec![count + 1, count + 2, 256, 1 << 63, u64::MAX - 1, u64::MAX];
         ks.extend([0, 1, count].map(|low| low + (1 << 32)));
         for k in ks {
@@ -112,25 +112,28 @@ fn k_above_the_count() {
 fn the_order_of_refusals() {
     let mut wrong = example();
     wrong.positions[2].quantity = 0;
-    let right = [FIRST, SECOND, LEFT];
+    let right = list_with(&[FIRST, SECOND, LEFT]);
     for k in [0, 1, 2, 3, 4, 1 << 32, u64::MAX] {
         for count in [0, 1, 2, 3, u64::MAX] {
             for list in [&[][..], &[UNTOUCHED; 2], &right] {
                 assert_eq!(refusal(&wrong.bytes(), list, count, k), (8, 2));
                 assert_eq!(refusal(&[], list, count, k), (1, 0));
             }
-            for list in [&[][..], &[FIRST], &[FIRST, SECOND], &[UNTOUCHED; 2]] {
-                assert_eq!(refusal(&example().bytes(), list, count, k), (12, 0));
+            for room in 0..NEEDED {
+                for list in [&right[..room], &[UNTOUCHED; NEEDED][..room]] {
+                    assert_eq!(refusal(&example().bytes(), list, count, k), (12, 0));
+                }
             }
         }
-        for (list, count) in [
+        for (lines, count) in [
             ([FIRST, UNTOUCHED, LEFT], 2),
             ([FIRST, ZEROS, LEFT], 2),
             ([SECOND, FIRST, LEFT], 1),
-            (right, 3),
-            (right, (1 << 32) + 2),
-            (right, u64::MAX),
+            ([FIRST, SECOND, LEFT], 3),
+            ([FIRST, SECOND, LEFT], (1 << 32) + 2),
+            ([FIRST, SECOND, LEFT], u64::MAX),
         ] {
+            let list = list_with(&lines);
             assert_eq!(refusal(&example().bytes(), &list, count, k), (18, 0), "{k} of {count}");
         }
     }
@@ -178,7 +181,7 @@ fn pairing_and_taking_apart() {
         let all = lines.len() as u64;
         for count in 0..=all {
             for k in (0..=all - count + 1).chain([u64::MAX]) {
-                let mut list = vec![UNTOUCHED; rows + 1];
+                let mut list = vec![UNTOUCHED; 2 * rows + 1];
                 list[..count as usize].copy_from_slice(&lines[..count as usize]);
                 let former = list.clone();
                 let made = pair_into(&bytes, &mut list, count, k).expect("paired");
@@ -210,7 +213,7 @@ fn one_by_one_and_at_once() {
         let bytes = draft.bytes();
         let lines = all_lines(&bytes);
         let mut one_by_one = [&lines[..], &[UNTOUCHED]].concat();
-        one_by_one.resize(draft.positions.len() + 1, UNTOUCHED);
+        one_by_one.resize(2 * draft.positions.len() + 1, UNTOUCHED);
         let all = one_by_one.clone();
         for k in 1..=lines.len() as u64 {
             let count = lines.len() as u64;
@@ -232,7 +235,7 @@ fn pairs_made_and_taken_apart_by_chance() {
     for draft in random_drafts(3, 400) {
         let bytes = draft.bytes();
         let lines = all_lines(&bytes);
-        let mut list = vec![UNTOUCHED; draft.positions.len()];
+        let mut list = vec![UNTOUCHED; 2 * draft.positions.len()];
         let (mut count, mut most) = (0, 0);
         for _ in 0..12 {
             if random.chance(50) {
@@ -269,7 +272,7 @@ fn a_held_option_sold_during_the_day() {
             if draft.positions[row].quantity == 1 {
                 continue;
             }
-            let mut list = vec![UNTOUCHED; draft.positions.len()];
+            let mut list = vec![UNTOUCHED; 2 * draft.positions.len()];
             let count = pair_into(&bytes, &mut list, 0, u64::MAX).expect("paired");
             let k = count - first as u64;
             let left = take_apart_in(&bytes, &mut list, count, k).expect("taken apart");

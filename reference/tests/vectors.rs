@@ -28,7 +28,7 @@ fn every_case_is_accepted_or_refused_as_it_was_made() {
 #[test]
 fn every_refusal() {
     let cases = all_cases();
-    assert_eq!(cases.len(), 1_809);
+    assert_eq!(cases.len(), 2_208);
     for number in [1, 2, 4, 5, 6, 7, 8, 9, 10, 11] {
         assert!(cases.iter().any(|c| c.expect == Expect::Refused(number, 0)), "{number} at 0");
         let later =
@@ -71,9 +71,19 @@ fn the_largest_files() {
     assert!(accounts.iter().any(|a| a.positions.len() == 256 && a.series.len() == 32));
     let answers: Vec<_> = accounts.iter().map(margin).collect();
     assert_eq!(answers.iter().map(|answer| answer.pairs.len()).max(), Some(255));
+    let (mut most, mut most_unblocked) = (0, 0);
     for (account, answer) in accounts.iter().zip(&answers) {
-        assert!(answer.pairs.len() + answer.left.len() <= account.positions.len());
+        let (p, lines) = (account.positions.len(), answer.pairs.len() + answer.left.len());
+        // Document 02 [9]; where none are blocked, as document 01 says.
+        if account.positions.iter().any(|position| position.blocked > 0) {
+            assert!(lines < 2 * p);
+            most = most.max(lines);
+        } else {
+            assert!(lines <= p);
+            most_unblocked = most_unblocked.max(lines);
+        }
     }
+    assert_eq!((most, most_unblocked), (511, 256));
 }
 
 /// Every barrier kind on written and held rows of calls and puts.

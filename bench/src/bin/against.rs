@@ -4,26 +4,24 @@
 use std::cell::RefCell;
 use std::hint::black_box;
 
-use bench::pairs_in;
 use bench::shapes::{account, SHAPES};
 use bench::small::{single_positions, small_accounts, KINDS};
 use bench::timing::{measure, rounds_asked};
+use bench::{empty, pairs_in, List};
 use library::{earlier, Line, Margin};
 
 type MarginProgram = fn(&[u8], &mut [Line]) -> Margin;
 type AmountProgram = fn(&[u8], u64) -> i64;
-type List = [Line; 256];
 
 /// The earlier archive's, then today's.
 const MARGINS: [MarginProgram; 2] = [earlier::margin, library::margin];
 const AMOUNTS: [AmountProgram; 2] = [earlier::position_amount, library::position_amount];
-const EMPTY: List = [[0; 5]; 256];
 const SIZES: [u32; 2] = [16, 256];
 
 /// Both answers for a file, each with its lines.
 fn margins(file: &[u8]) -> [(Margin, List); 2] {
     MARGINS.map(|margin| {
-        let mut list = EMPTY;
+        let mut list = empty();
         (margin(file, &mut list), list)
     })
 }
@@ -44,7 +42,7 @@ fn times(rounds: usize, files: &[Vec<u8>], programs: [impl Fn(&[u8]); 2]) -> [f6
 fn margin_row(rounds: usize, name: &str, files: &[Vec<u8>]) {
     let same = files.iter().map(|file| margins(file)).all(|[earlier, today]| earlier == today);
     let pairs: usize = files.iter().map(|file| pairs_in(&margins(file)[1].1)).sum();
-    let list = &RefCell::new(EMPTY);
+    let list = &RefCell::new(empty());
     let programs = MARGINS.map(|margin| {
         move |file: &[u8]| {
             black_box(margin(file, &mut *list.borrow_mut()));

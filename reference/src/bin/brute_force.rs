@@ -8,7 +8,9 @@ use reference::brute_force::{check, limited_pairs, reference_claim};
 use reference::day::apply_day;
 use reference::random::Random;
 use reference::reader::read_account;
-use reference::sample::{limited_alike, sample_account, sample_day, some_knocked_out, Shape};
+use reference::sample::{
+    limited_alike, sample_account, sample_day, some_blocked, some_knocked_out, Shape,
+};
 
 const LONGEST_PATH: usize = 4;
 
@@ -35,8 +37,9 @@ struct Tried {
     /// Accounts with some pairs made and others not, each number of them.
     half_paired: usize,
     limited_pairs: usize,
-    /// Rows with flag 16.
+    /// Rows with flag 16, and rows with blocked contracts.
     knocked_out: usize,
+    blocked: usize,
     steps: u64,
 }
 
@@ -51,11 +54,11 @@ fn main() -> ExitCode {
         return ExitCode::from(2);
     };
     match try_accounts(count, seed) {
-        Ok(Tried { pairs, half_paired, limited_pairs, knocked_out, steps }) => {
+        Ok(Tried { pairs, half_paired, limited_pairs, knocked_out, blocked, steps }) => {
             println!(
                 "seed {seed}: {count} accounts, {half_paired} half-paired, {pairs} pairs, \
-                 {limited_pairs} limited, {knocked_out} rows knocked out, {steps} path steps, \
-                 no violation"
+                 {limited_pairs} limited, {knocked_out} rows knocked out, {blocked} rows with \
+                 blocked contracts, {steps} path steps, no violation"
             );
             ExitCode::SUCCESS
         }
@@ -79,13 +82,14 @@ fn try_accounts(count: u64, seed: u64) -> Result<Tried, String> {
         all.half_paired += claim.half_paired.iter().filter(|half| !half.pairs.is_empty()).count();
         all.limited_pairs += limited_pairs(&account, &claim.margin);
         all.knocked_out += account.positions.iter().filter(|p| p.already_knocked_out).count();
+        all.blocked += account.positions.iter().filter(|p| p.blocked > 0).count();
     }
     Ok(all)
 }
 
 /// In every other sixteen accounts limiters stand at and beside each other; in
 /// every other thirty-two knock-outs have flag 16; every other sixty-four are
-/// as they are after a day.
+/// as they are after a day; in every other 128 contracts are blocked.
 fn account_to_try(random: &mut Random, tried: u64) -> Result<Account, String> {
     let shape = match tried % 16 {
         5 => EMPTY,
@@ -99,6 +103,9 @@ fn account_to_try(random: &mut Random, tried: u64) -> Result<Account, String> {
     }
     if tried / 32 % 2 == 1 {
         draft = some_knocked_out(random, draft);
+    }
+    if tried / 128 % 2 == 1 {
+        draft = some_blocked(random, draft);
     }
     let mut bytes = draft.bytes();
     let account =

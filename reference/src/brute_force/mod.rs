@@ -1,5 +1,6 @@
 //! Checks the four points of the document's section on paths by trying paths,
-//! and that a half-paired account is covered too (document 02 [7]).
+//! that a half-paired account is covered too (document 02 [7]), and that no
+//! blocked contract serves in a pair (document 02 [9]).
 
 mod prices;
 mod series_paths;
@@ -68,8 +69,9 @@ pub fn limited_pairs(account: &Account, margin: &Margin) -> usize {
         .count()
 }
 
-/// All four points, the contracts and the cover after each number of pairs.
-/// Gives the number of path steps tried, or the first violation in words.
+/// All four points, the contracts, the cover and the blocked contracts after
+/// each number of pairs. Gives the number of path steps tried, or the first
+/// violation in words.
 pub fn check(account: &Account, claim: &Claim, longest_path: usize) -> Result<u64, String> {
     for margin in claim.after_each_pair() {
         check_contracts(account, margin)?;
@@ -77,11 +79,15 @@ pub fn check(account: &Account, claim: &Claim, longest_path: usize) -> Result<u6
     check_no_pair_left_unmade(account, &claim.margin)?;
     // The cover and the least amount are promised only where every fb is at
     // most 1,000,000.
-    if account.series.iter().all(|series| series.fb <= MILLION) {
-        check_cover_and_least_amount(account, claim, longest_path)
+    let steps = if account.series.iter().all(|series| series.fb <= MILLION) {
+        check_cover_and_least_amount(account, claim, longest_path)?
     } else {
-        Ok(0)
+        0
+    };
+    for margin in claim.after_each_pair() {
+        check_blocked(account, margin)?;
     }
+    Ok(steps)
 }
 
 /// Contracts: pair lines and left line of every row add up to Q.
@@ -104,9 +110,27 @@ fn in_pairs(margin: &Margin, row: usize) -> i64 {
     margin.pairs.iter().filter(|p| p.written == row || p.held == row).map(|p| p.quantity).sum()
 }
 
-/// Pairs left unmade: after all pair lines no pair is allowed.
+/// Document 02 [9]: "Pairs use at most Q less the blocked."
+fn check_blocked(account: &Account, margin: &Margin) -> Result<(), String> {
+    for (row, position) in account.positions.iter().enumerate() {
+        let taken = in_pairs(margin, row);
+        if taken > position.quantity - position.blocked {
+            return Err(format!(
+                "blocked: {} of {} contracts of row {row}, its pairs take {taken}",
+                position.blocked, position.quantity
+            ));
+        }
+    }
+    Ok(())
+}
+
+/// Pairs left unmade: after all pair lines no pair is allowed. A held row has
+/// contracts left only while some that are not blocked are unused.
 fn check_no_pair_left_unmade(account: &Account, margin: &Margin) -> Result<(), String> {
-    let has_left = |row: &usize| account.positions[*row].quantity > in_pairs(margin, *row);
+    let has_left = |row: &usize| {
+        let position = &account.positions[*row];
+        position.quantity - position.blocked > in_pairs(margin, *row)
+    };
     let rows: Vec<usize> = (0..account.positions.len()).filter(has_left).collect();
     for &written in &rows {
         for &held in &rows {

@@ -1,9 +1,9 @@
 //! What the paths of one series show.
 
-use std::cmp::max;
+use std::cmp::{max, min};
 
 use super::prices::{prices_of_interest, walk};
-use super::Claim;
+use super::{in_pairs, Claim};
 use crate::account::{Account, Series, Side};
 use crate::lines::Margin;
 use crate::paths::payment;
@@ -12,7 +12,6 @@ use crate::spread::unit_spread_margin;
 struct Watch<'a> {
     account: &'a Account,
     claim: &'a Claim,
-    number: usize,
     series: &'a Series,
     /// The rows of the series.
     written: Vec<usize>,
@@ -60,7 +59,6 @@ impl<'a> Watch<'a> {
         Watch {
             account,
             claim,
-            number,
             series: &account.series[number],
             written: rows_of(Side::Written),
             held: rows_of(Side::Held),
@@ -91,16 +89,20 @@ impl<'a> Watch<'a> {
         self.violation = self.units_cover(&pays, path).and(self.spreads_cover(&pays, path)).err();
     }
 
-    /// What written rows pay out less what the pairs of a margin bring in.
+    /// What written rows pay out less what the pairs of a margin bring in. Of a
+    /// held row that is at most what its contracts bring in that are not
+    /// blocked (document 02 [9]).
     fn paid_out(&self, margin: &Margin, pays: &[i64]) -> i128 {
         let money = |row: usize, quantity: i64| {
             i128::from(pays[row]) * i128::from(self.series.m) * i128::from(quantity)
         };
-        let quantity = |row: usize| self.account.positions[row].quantity;
-        let out: i128 = self.written.iter().map(|&row| money(row, quantity(row))).sum();
-        let of_series = |held: usize| self.account.positions[held].series == self.number;
-        let pairs = margin.pairs.iter().filter(|pair| of_series(pair.held));
-        out - pairs.map(|pair| money(pair.held, pair.quantity)).sum::<i128>()
+        let position = |row: usize| &self.account.positions[row];
+        let out: i128 = self.written.iter().map(|&row| money(row, position(row).quantity)).sum();
+        let brings_in = |row: usize| {
+            let free = position(row).quantity - position(row).blocked;
+            money(row, min(in_pairs(margin, row), free))
+        };
+        out - self.held.iter().map(|&row| brings_in(row)).sum::<i128>()
     }
 
     /// The least amount, first half: the unit margin covers.

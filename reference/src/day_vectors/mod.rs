@@ -4,6 +4,7 @@
 //! are to be flagged. That comes from the way the file was made and not from
 //! the reader, so that the two check each other.
 
+mod blocked;
 mod by_chance;
 mod cover_sheets;
 mod flags;
@@ -92,6 +93,7 @@ pub fn all_days() -> Vec<DayCase> {
         prices::add_refused,
         by_chance::add,
         by_chance::add_wild,
+        blocked::add,
     ] {
         add(&mut cases);
     }

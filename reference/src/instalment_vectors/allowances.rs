@@ -41,7 +41,7 @@ const LONG: [&[u64]; 11] = [
 pub fn add(cases: &mut Cases) {
     cases.begin("allowances");
     let draft = one_against(PAIRS as u32);
-    let room = draft.positions.len();
+    let room = Lent::needed(&draft);
     let contents = [Lent::marked, |room| Lent::of(0, room), |room| Lent::of(u64::MAX, room)];
     for (number, allowances) in SHORT.into_iter().chain(LONG).enumerate() {
         let lent = contents[number % contents.len()](room + number % 3);
@@ -66,7 +66,7 @@ pub fn instalments(pairs: u64, allowances: &[u64]) -> Vec<Asked> {
 /// Begun again in a list that holds all pairs, or other lines: only the count
 /// says what is in it.
 fn pairs_already_there(cases: &mut Cases, draft: &Draft) {
-    let room = draft.positions.len();
+    let room = Lent::needed(draft);
     for allowance in [0, 1, 3, PAIRS, u64::MAX] {
         let mut asked = instalments(PAIRS, &[u64::MAX]);
         asked.extend(instalments(PAIRS, &[allowance, 2]));

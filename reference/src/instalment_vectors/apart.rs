@@ -18,7 +18,7 @@ fn known() -> [(&'static str, Known); 2] {
 pub fn add(cases: &mut Cases) {
     cases.begin("taken apart");
     for (name, known) in known() {
-        let room = known.draft.positions.len();
+        let room = Lent::needed(&known.draft);
         for count in 0..=known.pairs.len() as u64 {
             for k in 0..=count {
                 let asked = and_made_again(&known, count, k);
@@ -62,14 +62,14 @@ fn one_by_one(known: &Known) -> Vec<Asked> {
 }
 
 /// Seven pairs in lists that hold marks, zeros or the largest number behind
-/// the count, and are as long as the rows, or longer.
+/// the count, and are as long as they must be, or longer.
 fn other_content(cases: &mut Cases) {
     let draft = one_against(PAIRS as u32);
-    let rows = draft.positions.len();
+    let needed = Lent::needed(&draft);
     let contents = [Lent::marked, |room| Lent::of(0, room), |room| Lent::of(u64::MAX, room)];
     for count in 1..=PAIRS {
         for (number, k) in [0, 1, count / 2, count - 1, count].into_iter().enumerate() {
-            let lent = contents[(number + count as usize) % 3](rows + number % 2);
+            let lent = contents[(number + count as usize) % 3](needed + number % 2);
             let left = count - k;
             // One pair more, if there is one.
             let then = PAIRS.min(left + 1);
@@ -95,7 +95,7 @@ fn many_pairs(cases: &mut Cases) {
         made(154, 200, 101),
         apart(255, 255),
     ];
-    cases.add("255 pairs", &one_against(255), Lent::marked(256), asked);
+    cases.add("255 pairs", &one_against(255), Lent::marked(512), asked);
 }
 
 /// The low bits of most of these are a k that would be accepted.
@@ -112,12 +112,12 @@ fn ks_above(count: u64, room: u64) -> Vec<u64> {
 pub fn add_above(cases: &mut Cases) {
     cases.begin("k above the count");
     for (name, known) in known() {
-        let rows = known.draft.positions.len();
+        let room = Lent::needed(&known.draft);
         for count in 0..=known.pairs.len() as u64 {
             let mut asked: Vec<Asked> =
-                ks_above(count, rows as u64).into_iter().map(|k| above_count(count, k)).collect();
+                ks_above(count, room as u64).into_iter().map(|k| above_count(count, k)).collect();
             asked.push(apart(count, count));
-            let lent = Lent::with(&known.pairs, rows);
+            let lent = Lent::with(&known.pairs, room);
             cases.add(format!("{name}, of {count}"), &known.draft, lent, asked);
         }
     }
@@ -137,11 +137,12 @@ pub fn add_order(cases: &mut Cases) {
         ("2^32 above the pairs", [a, b, c], (1 << 32) + 3),
         ("the largest count but one", [a, b, c], u64::MAX - 1),
     ] {
-        let room = known.draft.positions.len();
+        let room = Lent::needed(&known.draft);
         let asked = ks_about(count).into_iter().flat_map(|k| refused(count, k, 18)).collect();
         cases.add(name, &known.draft, Lent::with(&lines, room), asked);
     }
-    for room in 0..known.draft.positions.len() {
+    let (rows, needed) = (known.draft.positions.len(), Lent::needed(&known.draft));
+    for room in [0, 1, rows - 1, rows, needed - 1] {
         short(cases, &known.draft, &known.pairs[..room.min(3)], room);
     }
 }
@@ -158,6 +159,6 @@ fn short(cases: &mut Cases, draft: &Draft, lines: &[Entry], room: usize) {
             asked.extend(refused(count, k, 12));
         }
     }
-    let name = format!("room {room} of {}", draft.positions.len());
+    let name = format!("room {room} of {}", Lent::needed(draft));
     cases.add(name, draft, Lent::with(lines, room), asked);
 }

@@ -1,13 +1,14 @@
 //! Accounts, allowances and lists by chance.
 
 use super::lists::Lent;
-use super::{above_count, apart, Asked, Cases, SEED};
+use super::{above_count, apart, refused, Asked, Cases, SEED};
+use crate::draft::Draft;
 use crate::instalment_cases::Call;
 use crate::instalments::HalfPaired;
 use crate::lines::{pair_entry, Entry};
 use crate::random::Random;
 use crate::reader::read_account;
-use crate::sample::{limited_alike, sample_account, some_knocked_out, Shape};
+use crate::sample::{limited_alike, sample_account, some_blocked, some_knocked_out, Shape};
 
 const SMALL: Shape = Shape {
     series: (1, 2),
@@ -20,17 +21,28 @@ const SMALL: Shape = Shape {
 const WIDE: Shape = Shape { pv: (1, 10_000_000), quantity: (1, 100_000), m: (1, 1_000), ..SMALL };
 const MIDDLE: Shape = Shape { series: (1, 3), positions: (12, 24), ..SMALL };
 
-/// A file with at least so many pairs, its number of rows, and the lines of the
-/// pairs.
+/// A file with at least so many pairs, the entries that its list needs, and the
+/// lines of the pairs.
 fn drawn(random: &mut Random, shape: &Shape, least: u64) -> (Vec<u8>, usize, Vec<Entry>) {
+    drawn_as(random, shape, least, |_, draft| draft)
+}
+
+/// The same of accounts with something more.
+fn drawn_as(
+    random: &mut Random,
+    shape: &Shape,
+    least: u64,
+    more: fn(&mut Random, Draft) -> Draft,
+) -> (Vec<u8>, usize, Vec<Entry>) {
     loop {
         let draft = sample_account(random, shape);
         let limited = limited_alike(random, draft);
-        let draft = some_knocked_out(random, limited);
+        let out = some_knocked_out(random, limited);
+        let draft = more(random, out);
         let mut half = HalfPaired::begun(read_account(&draft.bytes()).expect("accepted"));
         if half.make(u64::MAX) >= least {
             let lines = half.pairs.iter().map(pair_entry).collect();
-            return (draft.bytes(), draft.positions.len(), lines);
+            return (draft.bytes(), Lent::needed(&draft), lines);
         }
     }
 }
@@ -45,9 +57,9 @@ pub fn add(cases: &mut Cases) {
     ] {
         cases.begin(group);
         for number in 0..count {
-            let (file, rows, lines) = drawn(&mut random, &shape, least);
+            let (file, needed, lines) = drawn(&mut random, &shape, least);
             let asked = allowances(&mut random, lines.len() as u64);
-            let room = rows + random.between(0, 1) as usize;
+            let room = needed + random.between(0, 1) as usize;
             cases.add_bytes(number.to_string(), file, Lent::marked(room), asked);
         }
     }
@@ -79,7 +91,7 @@ pub fn add_spoiled(cases: &mut Cases) {
     cases.begin("random, spoiled");
     let mut random = Random::new(SEED + 2);
     for number in 0..80 {
-        let (file, rows, mut lines) = drawn(&mut random, &SMALL, 1);
+        let (file, needed, mut lines) = drawn(&mut random, &SMALL, 1);
         let (count, bit) = (lines.len() as u64, 1 << random.between(0, 63));
         let line = random.between(0, count as i64 - 1) as usize;
         let asked_of = match random.between(0, 4) {
@@ -99,7 +111,7 @@ pub fn add_spoiled(cases: &mut Cases) {
             (Call::Apart { count: asked_of, k: allowance }, None),
             (Call::Pair { count: line as u64, allowance }, None),
         ];
-        cases.add_bytes(number.to_string(), file, Lent::with(&lines, rows), asked);
+        cases.add_bytes(number.to_string(), file, Lent::with(&lines, needed), asked);
     }
 }
 
@@ -109,10 +121,33 @@ pub fn add_apart(cases: &mut Cases) {
     let mut random = Random::new(SEED + 3);
     for number in 0..60 {
         let shape = random.pick(&[SMALL, WIDE, MIDDLE]);
-        let (file, rows, lines) = drawn(&mut random, &shape, 2);
+        let (file, needed, lines) = drawn(&mut random, &shape, 2);
         let asked = by_turns(&mut random, lines.len() as u64);
-        let room = rows + random.between(0, 1) as usize;
+        let room = needed + random.between(0, 1) as usize;
         cases.add_bytes(number.to_string(), file, Lent::marked(room), asked);
+    }
+}
+
+/// Contracts of most held rows blocked: pairs in instalments, and by turns made
+/// and taken apart; lists that are too short now and then.
+pub fn add_blocked(cases: &mut Cases) {
+    cases.begin("random, blocked");
+    let mut random = Random::new(SEED + 4);
+    for number in 0..60 {
+        let shape = random.pick(&[SMALL, WIDE, MIDDLE]);
+        let (file, needed, lines) = drawn_as(&mut random, &shape, 2, some_blocked);
+        let pairs = lines.len() as u64;
+        if number % 4 == 3 {
+            let room = random.between(needed as i64 / 2, needed as i64 - 1) as usize;
+            let asked = refused(pairs, random.pick(&[0, 1, u64::MAX]), 12);
+            cases.add_bytes(format!("{number}, short"), file, Lent::with(&lines, room), asked);
+            continue;
+        }
+        let asked = match number % 2 {
+            0 => allowances(&mut random, pairs),
+            _ => by_turns(&mut random, pairs),
+        };
+        cases.add_bytes(number.to_string(), file, Lent::marked(needed), asked);
     }
 }
 

@@ -20,8 +20,8 @@ fn above(pairs: u64, room: u64) -> Vec<u64> {
 pub fn add(cases: &mut Cases) {
     cases.begin("counts");
     for (name, known) in [("the example", document()), ("three pairs", three_pairs())] {
-        let (rows, pairs) = (known.draft.positions.len(), known.pairs.len());
-        for room in [rows, rows + 5] {
+        let (needed, pairs) = (Lent::needed(&known.draft), known.pairs.len());
+        for room in [needed, needed + 5] {
             let last = known.pairs[pairs - 1];
             let mut lent = Lent::with(&known.pairs, room);
             lent.entries[pairs..].fill(last);
@@ -56,7 +56,7 @@ fn without_pairs(cases: &mut Cases) {
         ("held rows alone", of_one_side(1..4), 70),
         ("in different series", apart, 30_070),
     ] {
-        let room = draft.positions.len();
+        let room = Lent::needed(&draft);
         let mut asked = vec![amount(0, centavos), made(0, 0, 0), made(0, u64::MAX, 0)];
         for count in [1, room as u64, 256, 1 << 32, u64::MAX] {
             asked.extend(refused(count, 1, 18));
@@ -70,7 +70,7 @@ fn without_pairs(cases: &mut Cases) {
 pub fn add_with_left_lines(cases: &mut Cases) {
     cases.begin("left lines counted");
     for (name, known) in [("the example", document()), ("three pairs", three_pairs())] {
-        let room = known.draft.positions.len();
+        let room = Lent::needed(&known.draft);
         let lines = known.lines();
         let mut asked = Vec::new();
         for count in known.pairs.len() + 1..=room {

@@ -7,7 +7,7 @@ use super::{amount, made, Asked, Cases};
 pub fn add(cases: &mut Cases) {
     cases.begin("worked out by hand");
     for (name, known) in [("the example", document()), ("three pairs", three_pairs())] {
-        let room = known.draft.positions.len();
+        let room = Lent::needed(&known.draft);
         let (pairs, asked) = (known.pairs.len() as u64, one_by_one(&known));
         cases.add(format!("{name}, one by one"), &known.draft, Lent::marked(room), asked);
         for count in 0..=pairs {

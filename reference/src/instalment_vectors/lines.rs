@@ -34,7 +34,7 @@ pub fn add_changed(cases: &mut Cases) {
 }
 
 fn lent(known: &Known, lines: &[Entry]) -> Lent {
-    Lent::with(lines, known.draft.positions.len())
+    Lent::with(lines, Lent::needed(&known.draft))
 }
 
 /// With a wrong line in this entry: every count above it, then the count at it,

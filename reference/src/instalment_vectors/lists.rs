@@ -2,6 +2,7 @@
 
 use super::accounts::{document, three_pairs, Known};
 use super::{amount, made, refused, Cases};
+use crate::draft::Draft;
 use crate::lines::Entry;
 
 /// Entries after the list, which are not handed over.
@@ -19,6 +20,11 @@ pub fn mark(entry: usize) -> Entry {
 }
 
 impl Lent {
+    /// The entries that the list of an account needs: 2 × p (document 02 [9]).
+    pub fn needed(draft: &Draft) -> usize {
+        2 * draft.positions.len()
+    }
+
     /// A list of so many entries, marked as those after it are.
     pub fn marked(room: usize) -> Lent {
         Lent { room, entries: (0..room + AFTER).map(mark).collect() }
@@ -37,16 +43,17 @@ impl Lent {
     }
 }
 
-/// Refusal 12, whatever the lines, the count and the allowance; and lists that
-/// are just long enough, and longer than any account needs.
+/// Refusal 12, whatever the lines, the count and the allowance, also where there
+/// is an entry for every row; and lists that are just long enough, and longer
+/// than any account needs.
 pub fn add_short(cases: &mut Cases) {
     cases.begin("short lists");
     for (name, known) in [("the example", document()), ("three pairs", three_pairs())] {
-        let rows = known.draft.positions.len();
-        for room in 0..rows {
+        let needed = Lent::needed(&known.draft);
+        for room in 0..needed {
             short(cases, name, &known, room);
         }
-        for room in [rows, rows + 1, 256, 300] {
+        for room in [needed, needed + 1, 512, 600] {
             let pairs = known.pairs.len();
             let asked = vec![
                 made(0, 1, 1),
@@ -54,7 +61,7 @@ pub fn add_short(cases: &mut Cases) {
                 made(1, u64::MAX, pairs as u64 - 1),
                 amount(pairs as u64, known.amounts[pairs]),
             ];
-            let name = format!("{name}, room {room} of {rows}");
+            let name = format!("{name}, room {room} of {needed}");
             cases.add(name, &known.draft, Lent::marked(room), asked);
         }
     }
@@ -65,6 +72,6 @@ fn short(cases: &mut Cases, name: &str, known: &Known, room: usize) {
     let asked = counts.into_iter().flat_map(|count| refused(count, count, 12)).collect();
     // The first lines, as far as there are entries.
     let lines = &known.pairs[..known.pairs.len().min(room)];
-    let name = format!("{name}, room {room} of {}", known.draft.positions.len());
+    let name = format!("{name}, room {room} of {}", Lent::needed(&known.draft));
     cases.add(name, &known.draft, Lent::with(lines, room), asked);
 }

@@ -17,14 +17,14 @@ pub fn add(cases: &mut Cases) {
         let draft = one_against(255);
         let mut asked = instalments(255, allowances);
         asked.extend(refused(256, 1, 18));
-        cases.add(format!("255 pairs by {allowances:?}"), &draft, Lent::marked(256), asked);
+        cases.add(format!("255 pairs by {allowances:?}"), &draft, Lent::marked(512), asked);
     }
     // 128 pairs of one contract, each row in one of them.
     let row = |number: u32| [written(0, 3000 + number, 1), held(0, 3000 + number, 1)];
     let draft = one_series(CALL, (0..128).flat_map(row).collect());
     let mut asked = instalments(128, &[1, 127, 1]);
     asked.extend(refused(129, 1, 18));
-    cases.add("128 pairs", &draft, Lent::marked(256), asked);
+    cases.add("128 pairs", &draft, Lent::marked(512), asked);
 
     let mut random = Random::new(SEED);
     for (series, rows) in [(1, 256), (32, 256), (7, 100), (2, 60)] {
@@ -42,7 +42,7 @@ pub fn add(cases: &mut Cases) {
             (Call::Amount { count: 5 }, None),
             (Call::Pair { count: 5, allowance: u64::MAX }, None),
         ];
-        let lent = Lent::marked(rows as usize);
+        let lent = Lent::marked(Lent::needed(&draft));
         cases.add(format!("{series} series, {rows} rows"), &draft, lent, asked);
     }
 }

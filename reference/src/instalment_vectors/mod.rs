@@ -7,6 +7,7 @@
 mod accounts;
 mod allowances;
 mod apart;
+mod blocked;
 mod by_chance;
 mod counts;
 mod example;
@@ -87,7 +88,12 @@ fn above_count(count: u64, k: u64) -> Asked {
 
 /// All calls with this count, refused at row 0.
 fn refused(count: u64, allowance: u64, number: i64) -> Vec<Asked> {
-    let refusal = Some(Err(Refusal { number, row: 0 }));
+    refused_at(count, allowance, number, 0)
+}
+
+/// The same at any row.
+fn refused_at(count: u64, allowance: u64, number: i64, row: usize) -> Vec<Asked> {
+    let refusal = Some(Err(Refusal { number, row }));
     all_calls(count, allowance).map(|call| (call, refusal)).to_vec()
 }
 
@@ -118,6 +124,8 @@ pub fn all_instalments() -> Vec<Instalments> {
         apart::add_above,
         apart::add_order,
         by_chance::add_apart,
+        blocked::add,
+        by_chance::add_blocked,
     ] {
         add(&mut cases);
     }

@@ -8,7 +8,7 @@ pub fn add(cases: &mut Cases) {
     cases.begin("no positions");
     for (type_byte, series) in [(CALL, 1), (PUT, 32)] {
         let draft = Draft::new(vec![SeriesDraft::checked(type_byte); series], vec![]);
-        for room in [0, 1, 256] {
+        for room in [0, 1, 512] {
             let mut asked = vec![amount(0, 0), apart(0, 0), above_count(0, 1)];
             for allowance in [0, 1, 1 << 32, u64::MAX] {
                 asked.push(made(0, allowance, 0));
@@ -20,7 +20,7 @@ pub fn add(cases: &mut Cases) {
             asked.extend([1 << 32, 1 << 63, u64::MAX].map(|k| above_count(0, k)));
             asked.push(amount(0, 0));
             // The longest list is tried with fewer calls.
-            asked.truncate(if room == 256 { 8 } else { asked.len() });
+            asked.truncate(if room == 512 { 8 } else { asked.len() });
             let name = format!("{series} series, room {room}");
             cases.add(name, &draft, Lent::marked(room), asked);
         }

@@ -14,7 +14,7 @@ pub fn add(cases: &mut Cases) {
         let account = |rows| Draft::new(vec![SeriesDraft::at_ten(type_byte)], rows);
         let raising = account(vec![written(0, 10, 2), held(0, beside, 1)]);
         let asked = vec![amount(0, 100), made(0, 1, 1), amount(1, 200), made(1, 1, 0)];
-        cases.add(format!("type {type_byte}, raised"), &raising, Lent::marked(2), asked);
+        cases.add(format!("type {type_byte}, raised"), &raising, Lent::marked(4), asked);
 
         // Left are 120, 110, 100, 20 and 0 centavos, and each pair is rounded up to 100.
         let mut rows = vec![written(0, 10, 60)];
@@ -31,7 +31,7 @@ pub fn add(cases: &mut Cases) {
             amount(4, 400),
             made(4, 1, 0),
         ];
-        cases.add(format!("type {type_byte}, four pairs"), &account(rows), Lent::marked(5), asked);
+        cases.add(format!("type {type_byte}, four pairs"), &account(rows), Lent::marked(10), asked);
     }
 }
 
@@ -46,11 +46,11 @@ pub fn add_premiums(cases: &mut Cases) {
         held(0, 3500, 1).with_premium(1),
     ];
     let asked = vec![amount(0, 6_080), made(0, 2, 1), amount(1, 80)];
-    cases.add("held contracts left", &one_series(CALL, rows), Lent::marked(4), asked);
+    cases.add("held contracts left", &one_series(CALL, rows), Lent::marked(8), asked);
 
     let rows = vec![held(0, 3000, 1).with_premium(1), held(0, 3001, 7).with_premium(11)];
     let asked = vec![amount(0, 390), made(0, 1, 0), amount(0, 390)];
-    cases.add("held rows alone", &one_series(PUT, rows), Lent::marked(2), asked);
+    cases.add("held rows alone", &one_series(PUT, rows), Lent::marked(4), asked);
 
     // Two written rows and a held one that serves both, the nearer first.
     let rows = vec![
@@ -68,5 +68,5 @@ pub fn add_premiums(cases: &mut Cases) {
         amount(2, 4_000 + 200 + 300 + premiums),
         made(2, 1, 0),
     ];
-    cases.add("one held row for two", &one_series(CALL, rows), Lent::marked(4), asked);
+    cases.add("one held row for two", &one_series(CALL, rows), Lent::marked(8), asked);
 }

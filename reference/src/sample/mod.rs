@@ -2,11 +2,13 @@
 //! and often reused, so that equal prices, barriers met exactly, ties and
 //! pairs come up often.
 
+mod blocked;
 mod days;
 mod knock_outs;
 mod limiters;
 mod prices;
 
+pub use blocked::{sample_blocked, some_blocked};
 pub use days::sample_day;
 pub use knock_outs::some_knocked_out;
 pub use limiters::limited_alike;

@@ -4,7 +4,9 @@ use super::rows::sound;
 use super::{Cases, Expect, SEED};
 use crate::position_row::FLAG_LIMITER;
 use crate::random::Random;
-use crate::sample::{limited_alike, sample_account, sample_series, some_knocked_out, Shape};
+use crate::sample::{
+    limited_alike, sample_account, sample_series, some_blocked, some_knocked_out, Shape,
+};
 
 const MIDDLE: Shape = Shape {
     series: (1, 6),
@@ -89,6 +91,44 @@ pub fn add_small_amounts(cases: &mut Cases) {
     let mut random = Random::new(SEED + 7);
     for number in 0..24 {
         cases.accept(number.to_string(), sample_account(&mut random, &LEAST));
+    }
+}
+
+/// Contracts of most held rows blocked, in every other account with limiters and
+/// knock-outs too.
+pub fn add_blocked_accounts(cases: &mut Cases) {
+    cases.begin("random, blocked");
+    let mut random = Random::new(SEED + 8);
+    for (name, shape) in [
+        ("small prices", SMALL),
+        ("middle prices", MIDDLE),
+        ("all prices", WIDE),
+        ("one series", CROWDED),
+    ] {
+        for number in 0..15 {
+            let mut draft = sample_account(&mut random, &shape);
+            if number % 2 == 1 {
+                draft = limited_alike(&mut random, draft);
+                draft = some_knocked_out(&mut random, draft);
+            }
+            cases.accept(format!("{name} {number}"), some_blocked(&mut random, draft));
+        }
+    }
+}
+
+/// Bytes 5 to 7 of a row of either side changed at random, mostly one of them.
+pub fn add_changed_blocked(cases: &mut Cases) {
+    cases.begin("changed bytes, blocked");
+    let mut random = Random::new(SEED + 9);
+    let shape = Shape { positions: (1, 5), quantity: (1, 100_000), ..SMALL };
+    for number in 0..60 {
+        let mut draft = sample_account(&mut random, &shape);
+        let row = random.between(0, draft.positions.len() as i64 - 1) as usize;
+        let (byte, any) = (random.between(0, 2), random.draw() as u32 & 0xFF_FFFF);
+        let of_one_byte = (random.between(1, 255) as u32) << (8 * byte);
+        draft.positions[row].blocked = if random.chance(80) { of_one_byte } else { any };
+        let name = format!("{number}: row {row}, {}", draft.positions[row].blocked);
+        cases.add(name, draft.bytes(), Expect::Open);
     }
 }
 

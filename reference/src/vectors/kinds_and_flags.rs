@@ -1,11 +1,10 @@
 //! Every barrier kind, call and put, limiter or not, flags, barrier within and
 //! out of reach.
 
-use super::rows::{checked_series, held, is_up, one_series, written};
+use super::rows::{checked_series, held, is_up, one_series, written, KINDS};
 use super::Cases;
 use crate::draft::{
-    Draft, PositionDraft, SeriesDraft, CALL, DOWN_AND_IN, DOWN_AND_OUT, NO_BARRIER, PUT, UP_AND_IN,
-    UP_AND_OUT,
+    Draft, PositionDraft, SeriesDraft, CALL, DOWN_AND_IN, NO_BARRIER, PUT, UP_AND_IN,
 };
 
 #[derive(Clone, Copy)]
@@ -19,7 +18,6 @@ struct Variant {
     within_reach: bool,
 }
 
-const KINDS: [u8; 5] = [NO_BARRIER, UP_AND_IN, DOWN_AND_IN, UP_AND_OUT, DOWN_AND_OUT];
 const STYLES: [(bool, bool); 4] = [(false, false), (true, false), (false, true), (true, true)];
 
 pub fn add(cases: &mut Cases) {

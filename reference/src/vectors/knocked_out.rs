@@ -1,6 +1,6 @@
 //! Knock-outs that were touched on an earlier day (document 02 [5]): flag 16.
 
-use super::rows::{held, is_up, one_series, row_to_spoil, sound, written};
+use super::rows::{held, one_series, row_to_spoil, sound, within_reach, written};
 use super::Cases;
 use crate::draft::{
     Draft, PositionDraft, SeriesDraft, CALL, DOWN_AND_IN, DOWN_AND_OUT, HELD, NO_BARRIER, PUT,
@@ -50,11 +50,6 @@ fn other_flags(cases: &mut Cases, type_byte: u8, kind: u8) {
     }
     let name = format!("type {type_byte} kind {kind}, flags 2, 4 and 8 beside");
     cases.accept(name, one_series(type_byte, rows));
-}
-
-/// The row with a barrier of the kind, within reach and on its side of PV.
-fn within_reach(row: PositionDraft, kind: u8, rebate: u32) -> PositionDraft {
-    row.with_barrier(kind, if is_up(kind) { 3450 } else { 2550 }, rebate)
 }
 
 /// The same option held and written, with flag 16 and without: the two without

@@ -1,7 +1,7 @@
 //! Limiters inside a spread (document 02 [3]): PBh at PBw and one tick beside
 //! it, a limiter on one row alone, and choices among limited rows.
 
-use super::rows::{held, is_up, mirrored, one_series, written};
+use super::rows::{held, is_up, one_series, written};
 use super::Cases;
 use crate::draft::{
     PositionDraft, CALL, DOWN_AND_IN, DOWN_AND_OUT, NO_BARRIER, PUT, UP_AND_IN, UP_AND_OUT,
@@ -23,19 +23,11 @@ pub fn add(cases: &mut Cases) {
     flag_1(cases);
     formulas_in_force(cases);
     for (name, rows) in choices().into_iter().chain(ties()) {
-        both_types(cases, name, rows);
+        cases.accept_both(name, rows);
     }
     lowest_limiters(cases);
     lowest_limiters_of_knock_outs(cases);
     highest_limiters(cases);
-}
-
-/// An account of calls, and the same mirrored to puts.
-fn both_types(cases: &mut Cases, name: impl Into<String>, rows: Vec<PositionDraft>) {
-    let name = name.into();
-    let mirrored = rows.iter().map(mirrored).collect();
-    cases.accept(format!("{name}, calls"), one_series(CALL, rows));
-    cases.accept(format!("{name}, mirrored to puts"), one_series(PUT, mirrored));
 }
 
 /// The row with a barrier of the kind, so many ticks farther than a price
@@ -57,7 +49,7 @@ fn beside(cases: &mut Cases, kind: u8) {
         held(0, 3040, 3).with_limiter(3301),
     ];
     let rows = rows.map(|row| with_kind(row, kind, 0, 60)).to_vec();
-    both_types(cases, format!("kind {kind}, limiters beside each other"), rows);
+    cases.accept_both(format!("kind {kind}, limiters beside each other"), rows);
 }
 
 /// A limiter bars against an unlimited written row, however far it stands.
@@ -70,7 +62,7 @@ fn on_one_row(cases: &mut Cases, kind: u8) {
         held(0, 3045, 2),
     ];
     let rows = rows.map(|row| with_kind(row, kind, 0, 25)).to_vec();
-    both_types(cases, format!("kind {kind}, limiter on one row alone"), rows);
+    cases.accept_both(format!("kind {kind}, limiter on one row alone"), rows);
 }
 
 /// Neither the order of limiters nor that of barriers is enough by itself.
@@ -85,7 +77,7 @@ fn limiter_and_barrier(cases: &mut Cases, kind: u8) {
         of(held(0, 3050, 1), -1),
         of(held(0, 3060, 1), 1),
     ];
-    both_types(cases, format!("kind {kind}, order of limiters and of barriers"), rows);
+    cases.accept_both(format!("kind {kind}, order of limiters and of barriers"), rows);
 }
 
 /// D is not limited by PBw: here it is above PBw - PEw, and the held rebate
@@ -95,7 +87,7 @@ fn formulas_of_knock_outs(cases: &mut Cases, kind: u8) {
         with_kind(written(0, 3000, 5).with_limiter(3100), kind, 0, 590),
         with_kind(held(0, 3250, 2), kind, 0, 500),
     ];
-    both_types(cases, format!("kind {kind}, held strike beyond PBw"), rows);
+    cases.accept_both(format!("kind {kind}, held strike beyond PBw"), rows);
 }
 
 /// Knock-ins pair only when the same, limiter and all.
@@ -109,7 +101,7 @@ fn knock_ins(cases: &mut Cases, kind: u8) {
         held(0, 3000, 1).with_limiter(3299),
     ];
     let rows = rows.map(|row| with_kind(row, kind, 0, 7)).to_vec();
-    both_types(cases, format!("kind {kind}, knock-ins"), rows);
+    cases.accept_both(format!("kind {kind}, knock-ins"), rows);
 }
 
 /// Flag 1 takes the barrier, and the limiter stays.
@@ -125,7 +117,7 @@ fn flag_1(cases: &mut Cases) {
         written(0, 3100, 2),
         up_and_in(held(0, 3100, 1).with_limiter(3900)).knocked_in(),
     ];
-    both_types(cases, "flag 1", rows);
+    cases.accept_both("flag 1", rows);
 }
 
 /// The spread is not limited by PBw - PEw, and the margin of the written row
@@ -137,7 +129,7 @@ fn formulas_in_force(cases: &mut Cases) {
         held(0, 3149, 1),
         held(0, 3120, 1).with_limiter(3130),
     ];
-    both_types(cases, "held strike beyond PBw", rows);
+    cases.accept_both("held strike beyond PBw", rows);
 }
 
 fn choices() -> [(&'static str, Vec<PositionDraft>); 3] {

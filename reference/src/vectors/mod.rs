@@ -5,6 +5,10 @@
 //! not from the reader, so that the two check each other.
 
 mod amounts;
+mod blocked;
+mod blocked_choices;
+mod blocked_faults;
+mod blocked_lines;
 mod by_chance;
 mod checked_values;
 mod cover_sheets;
@@ -27,8 +31,9 @@ mod whole_reais;
 
 pub(crate) use two_faults::put_fault;
 
-use crate::draft::Draft;
+use crate::draft::{Draft, PositionDraft, CALL, PUT};
 use crate::output::margin_output;
+use rows::{mirrored, one_series};
 
 /// Of the numbers drawn.
 const SEED: u64 = 812_003;
@@ -68,6 +73,14 @@ impl Cases {
         self.add(name, draft.bytes(), Expect::Accepted);
     }
 
+    /// An account of calls, and the same mirrored to puts.
+    fn accept_both(&mut self, name: impl Into<String>, rows: Vec<PositionDraft>) {
+        let name = name.into();
+        let mirrored = rows.iter().map(mirrored).collect();
+        self.accept(format!("{name}, calls"), one_series(CALL, rows));
+        self.accept(format!("{name}, mirrored to puts"), one_series(PUT, mirrored));
+    }
+
     fn refuse(&mut self, name: impl Into<String>, bytes: Vec<u8>, number: i64, row: usize) {
         self.add(name, bytes, Expect::Refused(number, row));
     }
@@ -102,6 +115,13 @@ pub fn all_cases() -> Vec<Case> {
         by_chance::add_knocked_out_accounts,
         whole_reais::add,
         by_chance::add_small_amounts,
+        blocked::add,
+        blocked_choices::add,
+        blocked::add_flags_and_series,
+        blocked_lines::add,
+        blocked_faults::add,
+        by_chance::add_blocked_accounts,
+        by_chance::add_changed_blocked,
     ] {
         add(&mut cases);
     }

@@ -13,8 +13,19 @@ pub fn held(series: u16, strike: u32, quantity: u32) -> PositionDraft {
     PositionDraft::plain(series, HELD, strike, quantity)
 }
 
+/// Every kind of barrier, and none.
+pub const KINDS: [u8; 5] = [NO_BARRIER, UP_AND_IN, DOWN_AND_IN, UP_AND_OUT, DOWN_AND_OUT];
+
 pub fn is_up(kind: u8) -> bool {
     kind == UP_AND_IN || kind == UP_AND_OUT
+}
+
+/// The row with a barrier of the kind, within reach and on its side of PV 3000.
+pub fn within_reach(row: PositionDraft, kind: u8, rebate: u32) -> PositionDraft {
+    match kind {
+        NO_BARRIER => row,
+        _ => row.with_barrier(kind, if is_up(kind) { 3450 } else { 2550 }, rebate),
+    }
 }
 
 /// The row of a call as one of a put: every price as far on the other side of

@@ -71,10 +71,10 @@ type Faults = (&'static str, i64, fn(&mut PositionDraft));
 
 #[rustfmt::skip]
 const IN_ONE_ROW: [Faults; 17] = [
-    ("7 and 8", 7, |r| { r.spare[2] = 1; r.quantity = 0 }),
+    ("7 and 8", 7, |r| { r.blocked = 1 << 16; r.quantity = 0 }),
     ("7 and 9", 7, |r| { r.flags |= 16; r.limiter = 1 }),
     ("7 and 10", 7, |r| { r.side = 2; r.rebate = 1 }),
-    ("7 and 11", 7, |r| { *r = r.with_barrier(UP_AND_OUT, 3000, 0); r.spare[0] = 1 }),
+    ("7 and 11", 7, |r| { *r = r.with_barrier(UP_AND_OUT, 3000, 0); r.blocked = 1 }),
     ("7 by flag 1 and 11", 7, |r| *r = r.with_barrier(DOWN_AND_OUT, 3001, 0).knocked_in()),
     ("8 and 9", 8, |r| { r.strike = 0; r.limiter = 1 }),
     ("8 and 9, PE beyond, PB below it", 8, |r| { r.strike = 10_000_001; *r = r.with_limiter(5) }),
