@@ -86,7 +86,7 @@ module _ (b : List ℕ) where
       subst (λ (x : Account). entriesFor (x .positions) ≤ n → marginAnswer b n ≡ Total (length (lines x)) (total x)) (sym (k .1))
       (λ h. rw (answer-read n (Accepted (layout b)) (k .0), le-ltb n (entriesFor (layout b .positions)) h))
 
-  -- A list of as many entries as an account has lines at most is never too short.
+  -- A list of `mostLines` entries is never too short.
   pub margin-most : (a : Account) → meaning b ≡ accepted a → marginAnswer b mostLines ≡ Total (length (lines a)) (total a)
   unfolding layout
   margin-most a e =

@@ -88,7 +88,7 @@ module _ (b : List ℕ) (out : List Line) (count allowance : ℕ) where
 
 -- The answers for an accepted file.
 module _ (b : List ℕ) (a : Account) (e : meaning b ≡ accepted a) (out : List Line) (count : ℕ) where
-  -- A list of at least p entries in which the first pairs stand, and no more to be taken apart than there are: "The count
+  -- A list of at least 2 × p entries in which the first pairs stand, and no more to be taken apart than there are: "The count
   -- falls by k", and it is the answer.
   pub apart-goes : entriesFor (a .positions) ≤ length out → FirstPairs a out count → (k : ℕ) → k ≤ count
       → apartAnswer b out count k ≡ TakenApart (count - k)
@@ -103,7 +103,7 @@ module _ (b : List ℕ) (a : Account) (e : meaning b ≡ accepted a) (out : List
   pub apart-short : length out < entriesFor (a .positions) → (k : ℕ) → apartAnswer b out count k ≡ NotTakenApart ListTooShort 0
   apart-short short = refused-like-pairs b out count 0 ListTooShort 0 (pair-short b a e out count short 0)
 
-  -- A list of at least p entries in which other lines stand: 18, row 0, whatever k.
+  -- A list of at least 2 × p entries in which other lines stand: 18, row 0, whatever k.
   pub apart-18 : entriesFor (a .positions) ≤ length out → (FirstPairs a out count → ⊥) → (k : ℕ)
       → apartAnswer b out count k ≡ NotTakenApart NotFirstPairs 0
   apart-18 long wrong = refused-like-pairs b out count 0 NotFirstPairs 0 (pair-18 b a e out count long wrong 0)
@@ -148,7 +148,7 @@ module _ (b : List ℕ) (out : List Line) (count k : ℕ) where
       let told = apart-told left q 0 in
       pair-accepted b out count 0 (told .0) (told .1)
 
-  -- the list has at least p entries, the first pairs stand in it, there are at least k, and the new count is lower by k.
+  -- the list has at least 2 × p entries, the first pairs stand in it, there are at least k, and the new count is lower by k.
   pub apart-only : (a : Account) → meaning b ≡ accepted a → (left : ℕ) → apartAnswer b out count k ≡ TakenApart left
       → (entriesFor (a .positions) ≤ length out) × FirstPairs a out count × (k ≤ count) × (left ≡ count - k)
   apart-only a e left q =

@@ -5,7 +5,6 @@
 use Prim.Native.Nat.{ℕ, _*_, _-_}
 use mathlib.Core.List.{List, [], _∷_, _++_}
 use mathlib.Core.Path.{_≡_, refl}
-use lib.ListN.{length}
 use lib.IntN.{pos}
 use Rattle.rules.proofs.CheckOrder.{trailerBytes}
 use Rattle.rules.proofs.FileTables.{rowBytesWith, typedBytes}

@@ -100,10 +100,10 @@ seriesRowBytes pv fa fb f3 m option spare =
 abbrev pub seriesBytes : ℕ → ℕ → List ℕ
 seriesBytes pv spare = seriesRowBytes pv 1_200_000 800_000 50_000 5 0 spare
 
--- A European written row of the kind, last spare byte, contracts and barrier price given.
+-- A European written row of the kind, highest byte of the number blocked, contracts and barrier price given.
 abbrev positionBytes : ℕ → ℕ → ℕ → ℕ → List ℕ
-positionBytes kind spare q price =
-    (0 ∷ 0 ∷ 1 ∷ kind ∷ 4 ∷ 0 ∷ 0 ∷ spare ∷ [])
+positionBytes kind blocked q price =
+    (0 ∷ 0 ∷ 1 ∷ kind ∷ 4 ∷ 0 ∷ 0 ∷ blocked ∷ [])
     ++ bytes4 q
     ++ bytes4 3100
     ++ bytes4 0
@@ -145,7 +145,7 @@ pub file-order :
     × (meaning (file 3000 0 (positionBytes 1 0 1 3000 ++ positionBytes 5 0 1 0)) ≡ refused 11 0)
     -- The last row alone
     × (meaning (file 3000 0 (positionBytes 1 0 1 3001 ++ positionBytes 2 0 0 2999)) ≡ refused 8 1)
-    -- The last spare byte of a series row and of a position row
+    -- The last spare byte of a series row, and the highest byte of the number blocked of a written row
     × (meaning (file 3000 1 (positionBytes 0 0 1 0 ++ positionBytes 0 0 1 0)) ≡ refused 6 1)
     × (meaning (file 3000 0 (positionBytes 0 0 1 0 ++ positionBytes 0 1 1 0)) ≡ refused 7 1)
     -- Accepted, after a cover sheet of three bytes that is not read

@@ -115,7 +115,7 @@ module _ (b : List ℕ) (a : Account) (e : meaning b ≡ accepted a) (out : List
       ∙ ap (λ (y : Account). amountUnless (instalmentFault y out count) (totalAfter y count)) (sym (k .1))
       ∙ ap (λ (y : Fault). amountUnless y (totalAfter a count)) q
 
-  -- A list of at least p entries in which the first pairs stand: the next pairs are made, as many as are allowed or all; and
+  -- A list of at least 2 × p entries in which the first pairs stand: the next pairs are made, as many as are allowed or all; and
   -- the amount is that after so many pairs.
   pub pair-goes : entriesFor (a .positions) ≤ length out → FirstPairs a out count → (allowance : ℕ)
       → pairAnswer b out count allowance ≡ Paired (madeOf a count allowance)
@@ -131,7 +131,7 @@ module _ (b : List ℕ) (a : Account) (e : meaning b ≡ accepted a) (out : List
   pub so-far-short : length out < entriesFor (a .positions) → amountSoFar b out count ≡ NoAmount ListTooShort 0
   so-far-short short = so-far-by (Found ListTooShort) (fault-short a out count short)
 
-  -- A list of at least p entries in which other lines stand: 18, row 0.
+  -- A list of at least 2 × p entries in which other lines stand: 18, row 0.
   pub pair-18 : entriesFor (a .positions) ≤ length out → (FirstPairs a out count → ⊥) → (allowance : ℕ)
       → pairAnswer b out count allowance ≡ NotPaired NotFirstPairs 0
   pair-18 long wrong allowance = pair-by allowance (Found NotFirstPairs) (lines-fault a out count long wrong)
@@ -139,7 +139,7 @@ module _ (b : List ℕ) (a : Account) (e : meaning b ≡ accepted a) (out : List
   pub so-far-18 : entriesFor (a .positions) ≤ length out → (FirstPairs a out count → ⊥) → amountSoFar b out count ≡ NoAmount NotFirstPairs 0
   so-far-18 long wrong = so-far-by (Found NotFirstPairs) (lines-fault a out count long wrong)
 
-  -- The other way round: pairs are told, and an amount, only of a list of at least p entries in which the first pairs stand.
+  -- The other way round: pairs are told, and an amount, only of a list of at least 2 × p entries in which the first pairs stand.
   pub pair-only : (allowance made : ℕ) → pairAnswer b out count allowance ≡ Paired made
       → (entriesFor (a .positions) ≤ length out) × FirstPairs a out count × (made ≡ madeOf a count allowance)
   pair-only allowance made q = go (way a out count)

@@ -84,6 +84,6 @@ abbrev pub answerText : List ℕ → MarginAnswer → List ℕ
 answerText b (Total n sum) = linesText (linesGiven b mostLines) ++ totalsText (premiumsFor b (fileRead b)) sum
 answerText b (NoTotal w row) = refusedText (number w) row
 
--- The output for a file. A list of as many entries as there are lines at most is never too short (`Answers.margin-most`).
+-- The output for a file. A list of `mostLines` entries is never too short (`Answers.margin-most`).
 unfoldable pub marginText : List ℕ → List ℕ
 marginText b = answerText b (marginAnswer b mostLines)

@@ -27,7 +27,7 @@ module _ (b : List ℕ) (out : List Line) (count k : ℕ) where
       ap apartNumbers (r .2) ∙ ap (λ (x : ℕ). record { refusal = x; row = row; value = 0 }) (r .1)
 
   module _ (a : Account) (e : meaning b ≡ accepted a) where
-    -- An accepted file and a list of fewer than p entries: 12.
+    -- An accepted file and a list of fewer than 2 × p entries: 12.
     pub short-apart : length out < entriesFor (a .positions) → apartNumbers (apartAnswer b out count k) ≡ record { refusal = 12; row = 0; value = 0 }
     short-apart short = ap apartNumbers (apart-short b a e out count short k)
 

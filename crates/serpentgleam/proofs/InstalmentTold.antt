@@ -35,7 +35,7 @@ module _ (b : List ℕ) (out : List Line) (count : ℕ) where
       ap answerNumbers (r .2) ∙ ap (λ (x : ℕ). record { refusal = x; row = row; value = 0 }) (r .1)
 
   module _ (a : Account) (e : meaning b ≡ accepted a) where
-    -- An accepted file and a list of fewer than p entries: 12.
+    -- An accepted file and a list of fewer than 2 × p entries: 12.
     pub short-pairs : length out < entriesFor (a .positions) → (allowance : ℕ)
         → pairNumbers (pairAnswer b out count allowance) ≡ record { refusal = 12; row = 0; value = 0 }
     short-pairs short allowance = ap pairNumbers (pair-short b a e out count short allowance)
