@@ -1,12 +1,10 @@
 //! Faults of the number blocked (document 02 [9]): refusals 7 and 8, and faults
 //! beside them.
 
+use super::row_faults::{in_first_and_last_row, Fault};
 use super::rows::{held, row_to_spoil, sound};
 use super::Cases;
 use crate::draft::{Draft, PositionDraft, SeriesDraft, CALL, HELD, UP_AND_IN, UP_AND_OUT};
-
-/// What is wrong, the refusal's number, and the change that makes it so.
-type Fault = (&'static str, i64, fn(&mut PositionDraft));
 
 /// Of a row of 10 contracts: one that is held, and one that is written.
 fn bought(row: &mut PositionDraft, blocked: u32) {
@@ -60,13 +58,8 @@ const FAULTS: [Fault; 39] = [
 /// Each in the first row and in the last.
 pub fn add(cases: &mut Cases) {
     cases.begin("blocked, faults");
-    for (what, number, spoil) in FAULTS {
-        for row in [0, 4] {
-            let mut draft = sound();
-            draft.positions[row] = row_to_spoil();
-            spoil(&mut draft.positions[row]);
-            cases.refuse(format!("position row {row}: {what}"), draft.bytes(), number, row);
-        }
+    for fault in FAULTS {
+        in_first_and_last_row(cases, fault);
     }
     in_two_rows(cases);
     last_of_the_most_rows(cases);

@@ -1,5 +1,6 @@
 //! Knock-outs that were touched on an earlier day (document 02 [5]): flag 16.
 
+use super::row_faults::{in_first_and_last_row, Fault};
 use super::rows::{held, one_series, row_to_spoil, sound, within_reach, written};
 use super::Cases;
 use crate::draft::{
@@ -171,9 +172,6 @@ fn most_rows(cases: &mut Cases) {
     cases.accept("64 rows, every third knocked out", one_series(PUT, rows.collect()));
 }
 
-/// What is wrong, the refusal's number, and the change that makes it so.
-type Fault = (&'static str, i64, fn(&mut PositionDraft));
-
 fn out(row: &PositionDraft, kind: u8, price: u32, rebate: u32) -> PositionDraft {
     row.with_barrier(kind, price, rebate).knocked_out()
 }
@@ -214,13 +212,8 @@ const FAULTS: [Fault; 29] = [
 /// Each in the first row and in the last.
 pub fn add_faults(cases: &mut Cases) {
     cases.begin("knocked out, faults");
-    for (what, number, spoil) in FAULTS {
-        for row in [0, 4] {
-            let mut draft = sound();
-            draft.positions[row] = row_to_spoil();
-            spoil(&mut draft.positions[row]);
-            cases.refuse(format!("position row {row}: {what}"), draft.bytes(), number, row);
-        }
+    for fault in FAULTS {
+        in_first_and_last_row(cases, fault);
     }
     side_of_pv_of_the_next_row(cases);
 }

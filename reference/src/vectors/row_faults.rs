@@ -3,7 +3,9 @@
 use super::position_faults::POSITION_FAULTS;
 use super::rows::{row_to_spoil, sound, written};
 use super::Cases;
-use crate::draft::{Draft, SeriesDraft, CALL, DOWN_AND_IN, DOWN_AND_OUT, UP_AND_IN, UP_AND_OUT};
+use crate::draft::{
+    Draft, PositionDraft, SeriesDraft, CALL, DOWN_AND_IN, DOWN_AND_OUT, UP_AND_IN, UP_AND_OUT,
+};
 
 struct SeriesFault {
     /// Of the refusal.
@@ -47,16 +49,24 @@ pub fn add(cases: &mut Cases) {
         }
     }
     for fault in POSITION_FAULTS {
-        for row in [0, 4] {
-            let mut draft = sound();
-            draft.positions[row] = row_to_spoil();
-            (fault.spoil)(&mut draft.positions[row]);
-            let name = format!("position row {row}: {}", fault.what);
-            cases.refuse(name, draft.bytes(), fault.number, row);
-        }
+        in_first_and_last_row(cases, (fault.what, fault.number, fault.spoil));
     }
     last_of_the_most_rows(cases);
     no_price_on_the_right_side(cases);
+}
+
+/// What is wrong with a position row, the refusal's number, and the change that
+/// makes it so.
+pub type Fault = (&'static str, i64, fn(&mut PositionDraft));
+
+/// The fault in the first position row, and in the last.
+pub fn in_first_and_last_row(cases: &mut Cases, (what, number, spoil): Fault) {
+    for row in [0, 4] {
+        let mut draft = sound();
+        draft.positions[row] = row_to_spoil();
+        spoil(&mut draft.positions[row]);
+        cases.refuse(format!("position row {row}: {what}"), draft.bytes(), number, row);
+    }
 }
 
 /// The last of 256 rows and of 32 series.
