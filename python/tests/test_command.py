@@ -254,15 +254,19 @@ class Words(unittest.TestCase):
 
 class Terminal(unittest.TestCase):
     def on_terminal(self, *words):
-        """What a call shows where standard error is a terminal; 128 names come on standard input, 64 of them late."""
+        """What a call shows where standard error is a terminal; 128 names come on standard input, the last 64 once the
+        first are answered and as much time has passed as goes by before counts are shown.
+        """
         ours, theirs = pty.openpty()
-        with subprocess.Popen([*COMMAND, *words], stdin=subprocess.PIPE, stdout=subprocess.DEVNULL,
+        names, answers = (DOCUMENT + '\n').encode() * 64, named(DOCUMENT, ANSWER) * 64
+        with subprocess.Popen([*COMMAND, *words], stdin=subprocess.PIPE, stdout=subprocess.PIPE,
                               stderr=theirs) as process:
             os.close(theirs)
-            for wait in (FIRST_SHOWN + 0.5, 0):
-                process.stdin.write((DOCUMENT + '\n').encode() * 64)
-                process.stdin.flush()
-                time.sleep(wait)
+            process.stdin.write(names)
+            process.stdin.flush()
+            self.assertEqual(process.stdout.read(len(answers)), answers)
+            time.sleep(FIRST_SHOWN)
+            process.stdin.write(names)
             process.stdin.close()
             shown = b''
             while True:
