@@ -7,6 +7,7 @@ use rules::FileRead;
 use rules::Layout;
 use rules::Refusal;
 use rules::SERIES_WIDTH;
+use writing::write_u32;
 ghost use Prim.Native.Nat.{_+_, _≤_, _<_};
 ghost use lib.ListN.{length};
 ghost use lib.Seq.{sets};
@@ -28,17 +29,6 @@ fn wrong_day(d: Day) -> bool
         | ((d.high < 1) | (10_000_000 < d.high))
         | ((d.low < 1) | (10_000_000 < d.low))
         | ((d.close < 1) | (10_000_000 < d.close))
-}
-
-// The four little-endian bytes of a number from a place of the file on.
-fn write_u32(file: &mut [u8], at: usize, v: u64)
-    requires { ⌜ at + 4 ≤ length (now file) ⌝ }
-    ensures { λ _. ⌜ now (file .exit) ≡ sets (now (file .entry)) at (bytes4 v) ⌝ }
-{
-    file[at] = (v % 256) as u8;
-    file[at + 1] = (v / 256 % 256) as u8;
-    file[at + 2] = (v / 65_536 % 256) as u8;
-    file[at + 3] = (v / 16_777_216 % 256) as u8;
 }
 
 // The flags of the series' rows, then its PV, in an accepted file.

@@ -1,7 +1,7 @@
 -- The order of the checks, by computation: rows and files with two faults at once, of which the first wins, one accepted
 -- file with a cover sheet, and the refusals that come after the file.
 -- Assumes nothing.
-use Prim.Native.Nat.{ℕ, _/_, _%_}
+use Prim.Native.Nat.{ℕ}
 use mathlib.Core.List.{List, [], _∷_, _++_}
 use mathlib.Core.Path.{_≡_, refl}
 use Rattle.rules.specs.File.{layout, positionRow, seriesRow, span}
@@ -10,7 +10,7 @@ use Rattle.rules.specs.OnePosition.{amountAnswer, positionAmount, unitMa
 use Rattle.rules.specs.Pairs.{along, leftAfter, madeAfter, mayOf, through}
 use Rattle.rules.specs.Refusals.{fileRead, matchedFault, meaning, positionRowFault, positionRows, refuse, refused, rows, seriesRowFault, seriesRows, trailerFault}
 use Rattle.rules.specs.Spreads.{unitSpread}
-use Rattle.rules.specs.Writing.{bytes4}
+use Rattle.rules.specs.Writing.{bytes2, bytes4}
 use Rattle.rules.specs.declared.AmountAnswer.the-variants.{Amount, NoAmount}
 use Rattle.rules.specs.declared.Fault.the-variants.{Clean, Found}
 use Rattle.rules.specs.declared.FileRead.the-variants.{Accepted}
@@ -86,10 +86,6 @@ pub order :
 unfolding seriesRowFault positionRowFault matchedFault refuse
 order =
     (refl, refl, refl, refl, refl, refl, refl, refl, refl, refl, refl, refl, refl, refl, refl, refl, refl, refl, refl, refl, refl, refl, refl)
-
--- Little-endian bytes.
-abbrev bytes2 : ℕ → List ℕ
-bytes2 n = n % 256 ∷ n / 256 % 256 ∷ []
 
 -- A series row: PV, fa, fb, f3, M, type, last spare byte.
 abbrev pub seriesRowBytes : ℕ → ℕ → ℕ → ℕ → ℕ → ℕ → ℕ → List ℕ

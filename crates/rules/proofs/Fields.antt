@@ -35,7 +35,7 @@ withPv pv r =
     record { pv = pv; fa = r .fa; fb = r .fb; f3 = r .f3; m = r .m; option = r .option; spare = r .spare }
 
 -- Four bytes hold every number below 2^32.
-four-bytes : (v : ℕ) → v < 4_294_967_296 → v % 256 + 256 * (v / 256 % 256) + 65_536 * (v / 65_536 % 256) + 16_777_216 * (v / 16_777_216 % 256) ≡ v
+pub four-bytes : (v : ℕ) → v < 4_294_967_296 → v % 256 + 256 * (v / 256 % 256) + 65_536 * (v / 65_536 % 256) + 16_777_216 * (v / 16_777_216 % 256) ≡ v
 four-bytes v h =
     let e2 : v / 65_536 ≡ v / 256 / 256 = omega arith in
     let e3 : v / 16_777_216 ≡ v / 65_536 / 256 = omega arith in

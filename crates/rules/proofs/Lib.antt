@@ -57,6 +57,8 @@ pub mod NoPositions
 -- The day: stores, the fields of a file after them, the rows after the day, and what is promised of it.
 pub mod Stores
 pub mod Fields
+pub mod WrittenRows
+pub mod WrittenFile
 pub mod DayLaws
 pub mod DayRows
 pub mod DayFile

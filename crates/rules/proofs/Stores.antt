@@ -3,15 +3,15 @@
 -- Assumes nothing.
 use Prim.Native.Nat.{ℕ, zero, suc, _+_, _*_, _-_, _≤_, _<_}
 use mathlib.Core.Bool.{Bool, true, false}
-use mathlib.Core.List.{List, [], _∷_}
+use mathlib.Core.List.{List, [], _∷_, _++_}
 use mathlib.Core.Logic.{_⊎_, inl, inr}
-use mathlib.Core.Path.{_≡_, refl, _∙_, ap}
+use mathlib.Core.Path.{_≡_, refl, sym, _∙_, ap}
 use native.Mathlib.Nat.{eq-or-lt-of-le, le-of-suc-le-suc, not-suc-le-zero, mul-le-mul-left, mul-suc}
 use native.Mathlib.Omega.{arith}
 use borrow.Author.Tests.{eqb-false, eqb-true}
 use lib.Dec.{eqb}
-use lib.ListN.{getD, length, set, length-set}
-use lib.Seq.{sets, length-sets, getD-set-other, getD-set-same, set-getD}
+use lib.ListN.{drop, getD, length, set, length-set}
+use lib.Seq.{sets, sets-eq, length-sets, getD-set-other, getD-set-same, set-getD}
 use Rattle.rules.proofs.Tests.{lt-or-ge}
 use Rattle.rules.specs.Writing.{stores}
 
@@ -56,6 +56,26 @@ sets-again (a ∷ vs) b i h =
     let first : getD b i 0 ≡ a = rw here at (h 0 (omega arith)) in
     let same : set b i a ≡ b = rw (← first) (set-getD b i 0) in
     rw same (sets-again vs b (suc i) (λ k l. let next : i + suc k ≡ suc i + k = omega arith in rw next at (h (suc k) (omega arith))))
+
+-- Bytes stored in two parts, the second behind the first, are stored at once.
+sets-append : (xs ys b : List ℕ) (i : ℕ) → sets b i (xs ++ ys) ≡ sets (sets b i xs) (i + length xs) ys
+sets-append [] ys b i =
+    let here : i + 0 ≡ i = omega arith in
+    rw here
+sets-append (a ∷ xs) ys b i =
+    let next : i + suc (length xs) ≡ suc i + length xs = omega arith in
+    rw next (sets-append xs ys (set b i a) (suc i))
+
+-- The same of files: c is b with the first part, d is c with the second.
+pub stored-behind : (b c d xs ys : List ℕ) (i : ℕ) → c ≡ sets b i xs → d ≡ sets c (i + length xs) ys → d ≡ sets b i (xs ++ ys)
+stored-behind b c d xs ys i first second =
+    second ∙ ap (λ (x : List ℕ). sets x (i + length xs) ys) first ∙ sym (sets-append xs ys b i)
+
+-- Stored from byte 0 on, the bytes stand before what was behind them.
+pub sets-front : (vs b : List ℕ) → length vs ≤ length b → sets b 0 vs ≡ vs ++ drop (length vs) b
+sets-front vs b fits =
+    let front : 0 + length vs ≡ length vs = omega arith in
+    rw front at (sets-eq vs b 0 (omega arith))
 
 -- Four stores of code, one byte after the other, are the store of the four.
 pub four-stores : (b : List ℕ) (i w x y z : ℕ) → set (set (set (set b i w) (i + 1) x) (i + 2) y) (i + 3) z ≡ sets b i (w ∷ x ∷ y ∷ z ∷ [])
