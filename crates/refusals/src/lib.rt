@@ -25,5 +25,6 @@ pub fn refusal_number(why: Refusal) -> u32
         Refusal::DayPrices => 17,
         Refusal::NotFirstPairs => 18,
         Refusal::AboveCount => 19,
+        Refusal::LoadAskedFor => 20,
     }
 }

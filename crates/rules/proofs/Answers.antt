@@ -27,11 +27,11 @@ use Rattle.rules.specs.declared.FileRead.the-variants.{Accepted, Refused
 use Rattle.rules.specs.declared.Line.{Line}
 use Rattle.rules.specs.declared.MarginAnswer.the-variants.{NoTotal, Total}
 use Rattle.rules.specs.declared.Refusal.{Refusal}
-use Rattle.rules.specs.declared.Refusal.the-variants.{FileSize, Trailer, Distance, SeriesRange, SeriesType, PositionTerms, PositionRange, LimiterPrice, BarrierPrice, BarrierSide, ListTooShort, RowAskedFor, FactorsAskedFor, SeriesAskedFor, DayPrices, NotFirstPairs, AboveCount}
+use Rattle.rules.specs.declared.Refusal.the-variants.{FileSize, Trailer, Distance, SeriesRange, SeriesType, PositionTerms, PositionRange, LimiterPrice, BarrierPrice, BarrierSide, ListTooShort, RowAskedFor, FactorsAskedFor, SeriesAskedFor, DayPrices, NotFirstPairs, AboveCount, LoadAskedFor}
 
--- Every refusal's number is 1 to 19, so that 0 and amounts are never taken for one; none is 3, which is withdrawn, and none
+-- Every refusal's number is 1 to 20, so that 0 and amounts are never taken for one; none is 3, which is withdrawn, and none
 -- is 15, which no request gives.
-pub number-range : (w : Refusal) → (1 ≤ number w) × (number w ≤ 19) × (number w ≡ 3 → ⊥) × (number w ≡ 15 → ⊥)
+pub number-range : (w : Refusal) → (1 ≤ number w) × (number w ≤ 20) × (number w ≡ 3 → ⊥) × (number w ≡ 15 → ⊥)
 number-range FileSize = (omega arith, omega arith, λ (q : number FileSize ≡ 3). omega arith, λ (q : number FileSize ≡ 15). omega arith)
 number-range Trailer = (omega arith, omega arith, λ (q : number Trailer ≡ 3). omega arith, λ (q : number Trailer ≡ 15). omega arith)
 number-range Distance = (omega arith, omega arith, λ (q : number Distance ≡ 3). omega arith, λ (q : number Distance ≡ 15). omega arith)
@@ -49,6 +49,7 @@ number-range SeriesAskedFor = (omega arith, omega arith, λ (q : number SeriesAs
 number-range DayPrices = (omega arith, omega arith, λ (q : number DayPrices ≡ 3). omega arith, λ (q : number DayPrices ≡ 15). omega arith)
 number-range NotFirstPairs = (omega arith, omega arith, λ (q : number NotFirstPairs ≡ 3). omega arith, λ (q : number NotFirstPairs ≡ 15). omega arith)
 number-range AboveCount = (omega arith, omega arith, λ (q : number AboveCount ≡ 3). omega arith, λ (q : number AboveCount ≡ 15). omega arith)
+number-range LoadAskedFor = (omega arith, omega arith, λ (q : number LoadAskedFor ≡ 3). omega arith, λ (q : number LoadAskedFor ≡ 15). omega arith)
 
 module _ (b : List ℕ) where
   -- The answer, and the lines given, by the reading.

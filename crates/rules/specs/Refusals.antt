@@ -17,7 +17,7 @@ use Rattle.rules.specs.declared.PositionRead.{PositionRead}
 use Rattle.rules.specs.declared.PositionRead.the-variants.{Read, Unreadable}
 use Rattle.rules.specs.declared.PositionRow.{PositionRow}
 use Rattle.rules.specs.declared.Refusal.{Refusal}
-use Rattle.rules.specs.declared.Refusal.the-variants.{FileSize, Trailer, Distance, SeriesRange, SeriesType, PositionTerms, PositionRange, LimiterPrice, BarrierPrice, BarrierSide, ListTooShort, RowAskedFor, FactorsAskedFor, SeriesAskedFor, DayPrices, NotFirstPairs, AboveCount}
+use Rattle.rules.specs.declared.Refusal.the-variants.{FileSize, Trailer, Distance, SeriesRange, SeriesType, PositionTerms, PositionRange, LimiterPrice, BarrierPrice, BarrierSide, ListTooShort, RowAskedFor, FactorsAskedFor, SeriesAskedFor, DayPrices, NotFirstPairs, AboveCount, LoadAskedFor}
 use Rattle.rules.specs.declared.SeriesRow.{SeriesRow}
 
 -- The table's column "Number". Refusals 1 to 11 are a file's and tested here; 12 is tested in `Lines.marginForList`, for
@@ -25,7 +25,7 @@ use Rattle.rules.specs.declared.SeriesRow.{SeriesRow}
 -- after the file. Document 02, request 1: "Refusal 3 is withdrawn." Its number is given to nothing else. Request 2's 14 is no
 -- file's: it is tested in `FactorsAre` of crate factors. Request 5's 16 and 17 are a day's, tested in `Day.dayChecks` after the
 -- file. No request gives 15. Request 7's 18 is tested in `Instalments.instalmentChecks`, after 12, and request 8's 19 in
--- `TakingApart.apartChecks`, after 18.
+-- `TakingApart.apartChecks`, after 18. Request 10's 20 is no file's: it is tested in `wrongLoad` of crate load.
 abbrev pub number : Refusal → ℕ
 number FileSize = 1
 number Trailer = 2
@@ -44,6 +44,7 @@ number SeriesAskedFor = 16
 number DayPrices = 17
 number NotFirstPairs = 18
 number AboveCount = 19
+number LoadAskedFor = 20
 
 -- x is not from least to most.
 abbrev pub outside : ℕ → ℕ → ℕ → Bool

@@ -148,6 +148,7 @@ pub enum Refusal {
     DayPrices,
     NotFirstPairs,
     AboveCount,
+    LoadAskedFor,
 }
 
 // What the checks of the trailer, of a row, of a day, of the lines in a list or of how many are to be taken apart find.

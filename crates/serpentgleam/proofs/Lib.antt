@@ -12,3 +12,4 @@ pub mod AnswerNumbers
 pub mod FactorAnswers
 pub mod InstalmentTold
 pub mod ApartTold
+pub mod LoadTold

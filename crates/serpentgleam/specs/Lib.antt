@@ -3,3 +3,4 @@ pub mod MarginNumbers
 pub mod InstalmentNumbers
 pub mod FactorNumbers
 pub mod DayNumbers
+pub mod LoadNumbers

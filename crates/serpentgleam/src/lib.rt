@@ -17,6 +17,8 @@ use lines::MOST_PAIR_NUMBERS;
 use lines_and_total::line_count;
 use lines_and_total::premium_answer;
 use lines_and_total::settle;
+use load::LoadAnswer;
+use load::load;
 use position::amount::amount_for_row;
 use position::answer::signed;
 use refusals::refusal_number;
@@ -29,6 +31,7 @@ use rules::MarginAnswer;
 use rules::Refusal;
 ghost use lib.ListN.{length};
 ghost use mathlib.Core.Path.{_≡_};
+ghost use Rattle.load.specs.Load.{bufferAfter, loadAnswer};
 ghost use Rattle.rules.specs.Day.{dayAnswer, fileAfter};
 ghost use Rattle.rules.specs.Instalments.{amountSoFar, listPaired, pairAnswer};
 ghost use Rattle.rules.specs.Lines.{listAfter, marginAnswer, premiumAnswer};
@@ -37,6 +40,7 @@ ghost use Rattle.rules.specs.TakingApart.{apartAnswer, listApart};
 ghost use Rattle.serpentgleam.specs.DayNumbers.{dayNumbers, dayOf};
 ghost use Rattle.serpentgleam.specs.FactorNumbers.{FactorsTold, factorNumbers};
 ghost use Rattle.serpentgleam.specs.InstalmentNumbers.{apartNumbers, pairNumbers, toldNumbers};
+ghost use Rattle.serpentgleam.specs.LoadNumbers.{loadNumbers};
 ghost use Rattle.serpentgleam.specs.MarginNumbers.{answerNumbers, marginNumbers};
 
 // A file's margin as numbers, the header's `serpentgleam_result`: 0, 0, the line count and the total in centavos; or the
@@ -69,8 +73,8 @@ fn numbers_of(answer: MarginAnswer) -> Margin
     }
 }
 
-// A number asked of a file, how many pairs a call made or left, or a day applied to it, the header's `serpentgleam_answer`: 0,
-// 0 and the number, 0 for a day; or the refusal's number, its row and 0.
+// A number asked of a file, how many pairs a call made or left, a day applied to it or the bytes of a load, the header's
+// `serpentgleam_answer`: 0, 0 and the number, 0 for a day; or the refusal's number, its row and 0.
 #[repr(C)]
 pub struct Answer {
     pub refusal: u64,
@@ -150,6 +154,24 @@ fn apart_numbers(answer: ApartAnswer) -> Answer
             value: left as u64,
         },
         ApartAnswer::NotTakenApart(why, row) => Answer {
+            refusal: refusal_number(why) as u64,
+            row: row as u64,
+            value: 0,
+        },
+    }
+}
+
+// The numbers of a load.
+fn load_numbers(answer: LoadAnswer) -> Answer
+    ensures { λ r. ⌜ r ≡ loadNumbers answer ⌝ }
+{
+    match answer {
+        LoadAnswer::Made(bytes) => Answer {
+            refusal: 0,
+            row: 0,
+            value: bytes,
+        },
+        LoadAnswer::NotMade(why, row) => Answer {
             refusal: refusal_number(why) as u64,
             row: row as u64,
             value: 0,
@@ -304,4 +326,15 @@ pub extern "C" fn serpentgleam_take_apart(
     let zeros = [0u64; MOST_PAIR_NUMBERS];
     write_entries(lines, kept, n, &zeros);
     apart_numbers(answer)
+}
+
+// An account for the bench, of a seed and `p` rows, at the beginning of the lent buffer: the bytes of its file, or the refusal,
+// on which the buffer keeps its content. Bytes after the file stay. Any numbers and any buffer may be handed over.
+#[no_mangle]
+pub extern "C" fn serpentgleam_load(seed: u64, p: u64, buffer: &mut [u8]) -> Answer
+    ensures numbers { λ r. ⌜ r ≡ loadNumbers (loadAnswer seed p (length (now (buffer .entry)))) ⌝ }
+    ensures bytes { λ _. ⌜ now (buffer .exit) ≡ bufferAfter seed p (now (buffer .entry)) ⌝ }
+{
+    let answer = load(seed, p, buffer);
+    load_numbers(answer)
 }
