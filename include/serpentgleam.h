@@ -6,14 +6,14 @@
  *
  * The library has no state, takes no memory from a heap, starts no thread and calls nothing of the operating system: every
  * call may be made from any thread, and calls on different threads do not affect each other. A call that takes a list needs
- * about 37 KB of stack or less, serpentgleam_pair about 31 KB; the one for factors needs about 8 KB, the others less than 1
- * KB. From version 0.9.0 on serpentgleam_margin and serpentgleam_amount_so_far need about 7 KB more than before, for twice
- * as many lines, and serpentgleam_pair and serpentgleam_take_apart less than 1 KB more.
+ * about 37 KB of stack or less, serpentgleam_pair about 31 KB; the one for factors needs about 8 KB, the others, a load too,
+ * less than 1 KB. From version 0.9.0 on serpentgleam_margin and serpentgleam_amount_so_far need about 7 KB more than before,
+ * for twice as many lines, and serpentgleam_pair and serpentgleam_take_apart less than 1 KB more.
  *
  * It reads the bytes handed over during the call alone and keeps no pointer to them; the caller owns them before, during
- * and after. It writes nothing to a file's bytes, except in serpentgleam_day, which writes to the bytes lent to it during
- * the call alone: until it is done they must not be handed to another call. The same holds of a list of lines, which
- * serpentgleam_margin, serpentgleam_pair and serpentgleam_take_apart write during the call alone; the last two and
+ * and after. Two calls write to bytes, during the call alone: serpentgleam_day to those of its file, and serpentgleam_load
+ * to those of its buffer. Until the call is done they must not be handed to another one. The same holds of a list of lines,
+ * which serpentgleam_margin, serpentgleam_pair and serpentgleam_take_apart write during the call alone; the last two and
  * serpentgleam_amount_so_far read it. It must not overlap the file's bytes.
  *
  * An account file has at most 65,536 bytes. Any bytes may be handed over: a file that is not in order is refused, and
@@ -29,7 +29,7 @@
  * the premiums are those of all its contracts. A library before version 0.9.0 refuses a row with blocked contracts with
  * SERPENTGLEAM_REFUSED_POSITION_TERMS.
  *
- * A refusal is a number from 1 to 19, below with a name for each; serpentgleam_refusal_sentence gives its sentence. The
+ * A refusal is a number from 1 to 20, below with a name for each; serpentgleam_refusal_sentence gives its sentence. The
  * numbers 3 and 15 are not used. An account without positions is accepted, with no lines, premiums 0 and total 0.
  */
 #ifndef SERPENTGLEAM_H
@@ -39,9 +39,9 @@
 #include <stdint.h>
 
 /* The version of this header and of the library that it came with. */
-#define SERPENTGLEAM_VERSION "0.9.0"
+#define SERPENTGLEAM_VERSION "0.10.0"
 #define SERPENTGLEAM_VERSION_MAJOR 0
-#define SERPENTGLEAM_VERSION_MINOR 9
+#define SERPENTGLEAM_VERSION_MINOR 10
 #define SERPENTGLEAM_VERSION_PATCH 0
 
 /* Limits of every account: bytes of its file, series and positions. */
@@ -67,6 +67,10 @@
 #define SERPENTGLEAM_OFV 3
 #define SERPENTGLEAM_MOST_DAYS 1800
 
+/* The largest seed of a load, and the bytes of a buffer that is long enough for every load: 36 + 32 x 256. */
+#define SERPENTGLEAM_MOST_SEED 2147483646
+#define SERPENTGLEAM_MOST_LOAD 8228
+
 /* The refusals. None has the number 3 or 15: before version 0.2.0 an account without positions was refused with 3. */
 #define SERPENTGLEAM_REFUSED_FILE_SIZE 1
 #define SERPENTGLEAM_REFUSED_TRAILER 2
@@ -85,6 +89,7 @@
 #define SERPENTGLEAM_REFUSED_DAY_PRICES 17
 #define SERPENTGLEAM_REFUSED_NOT_FIRST_PAIRS 18
 #define SERPENTGLEAM_REFUSED_ABOVE_COUNT 19
+#define SERPENTGLEAM_REFUSED_LOAD_ASKED_FOR 20
 
 #ifdef __cplusplus
 extern "C" {
@@ -128,6 +133,8 @@ static inline const char *serpentgleam_refusal_sentence(uint64_t number)
         return "the lines in the list are not the account's first pairs";
     case SERPENTGLEAM_REFUSED_ABOVE_COUNT:
         return "more pairs to take apart than there are in the list";
+    case SERPENTGLEAM_REFUSED_LOAD_ASKED_FOR:
+        return "the load asked for: seed not 1 to 2,147,483,646, p not 1 to 256, or a buffer below 36 + 32 x p bytes";
     default:
         return "there is no refusal of this number";
     }
@@ -319,6 +326,31 @@ struct serpentgleam_answer serpentgleam_amount_so_far(const uint8_t *file, size_
  */
 struct serpentgleam_answer serpentgleam_take_apart(const uint8_t *file, size_t length, struct serpentgleam_line *lines,
                                                    size_t room, uint64_t count, uint64_t k);
+
+/*
+ * Makes an account of a load, for support and for a bench: the same seed and the same number of positions give the same
+ * account file on every machine. Takes no file.
+ *
+ * seed: 1 to SERPENTGLEAM_MOST_SEED.
+ * p: how many positions the account has, 1 to SERPENTGLEAM_MOST_POSITIONS.
+ * buffer, room: the bytes that the file is written to, and how many they are: 36 + 32 x p or more. SERPENTGLEAM_MOST_LOAD
+ * are enough for every load. With room 0, which is always refused, the pointer may be NULL.
+ *
+ * The file stands from the buffer's first byte on, and the value is how many bytes it has, 36 + 32 x p: with buffer and value
+ * it is handed to the other calls. Bytes after it keep their content.
+ *
+ * The account has one series and no cover sheet. A state that begins with the seed goes from t to 48271 x t mod 2147483647
+ * with every draw, and draw(k) is the next state mod k. Of the series are drawn, in this order: PV 1000 + draw(9000), fa
+ * 1000000 + draw(500000), fb 500000 + draw(500001), M 1 + draw(10), type draw(2); f3 is 50000. Of each position: side draw(2),
+ * kind draw(5), Q 1 + draw(100), PE 1 + draw(10000), and if the kind is above 0 the barrier, PV + 1 + draw(1000) when up or
+ * 1 + draw(PV - 1) when down, then REB draw(100). All are European, without limiter and premium, and none are blocked.
+ *
+ * Promised: every such file is accepted, and its rows are the ones drawn.
+ *
+ * Answers the value, or SERPENTGLEAM_REFUSED_LOAD_ASKED_FOR with row 0 where the seed or p is not in its range or the buffer
+ * has fewer than 36 + 32 x p bytes. On a refusal every byte of the buffer keeps its content. Any numbers may be handed over.
+ */
+struct serpentgleam_answer serpentgleam_load(uint64_t seed, uint64_t p, uint8_t *buffer, size_t room);
 
 #ifdef __cplusplus
 }

@@ -163,6 +163,8 @@ echo '1863083 1085366' | same command.out 'the installed command'
 cp "$top/examples/before_the_day.account" .
 "$prefix/bin/serpentgleam" day before_the_day.account 0 3500 2700 2900 -o before_the_day.account
 cmp before_the_day.account "$top/examples/after_the_day.account" || wrong 'the installed command wrote another file'
+"$prefix/bin/serpentgleam" load 99 8 -o load.account
+cmp load.account "$top/examples/load.account" || wrong 'the installed command wrote another file'
 "$prefix/bin/serpentgleam" --version > command.out
 echo "serpentgleam $version" | same command.out 'the installed command'
 PYTHONPATH=$prefix/share/serpentgleam \

@@ -1,5 +1,5 @@
 """Where hand arithmetic and product meet: what the product prints, if it is what the hand arithmetic says."""
-from . import apart, blocked, instalments, product
+from . import apart, blocked, instalments, load, product
 from .day import refused, text_after
 from .pairing import answer_of
 from .product import file_after, file_from_text, printed
@@ -69,3 +69,14 @@ def agreed_apart(text, entries, count, k):
     """What serpentgleam_take_apart answers for them and a number of pairs, and the list after it."""
     return same(f'{text}{entries} {count} {k}', product.taken_apart(file_from_text(text), entries, count, k),
                 apart.taken_apart(rows_from(text), entries, count, k))
+
+
+def agreed_load(seed, p, before):
+    """What serpentgleam_load answers for a seed, a number of positions and a buffer, and the buffer after it."""
+    hand = ('refused 20 0', before)
+    if not load.refused(seed, p, len(before)):
+        text = load.text_of(seed, p)
+        file = file_from_text(text)
+        agreed(text)
+        hand = (str(load.size(p)), file + before[len(file):])
+    return same(f'load {seed} {p} {len(before)}', product.loaded(seed, p, before), hand)

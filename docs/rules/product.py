@@ -1,5 +1,5 @@
 """The product's answers: an account's text made into its file, what the proved programs print, and what the library's
-calls for a list of lines, for instalments and for taking pairs apart answer.
+calls for a list of lines, for instalments, for taking pairs apart and for a load answer.
 """
 import ctypes
 import subprocess
@@ -110,6 +110,13 @@ def amount_so_far(file, entries, count):
     """What serpentgleam_amount_so_far answers."""
     call = found(library.instalment_calls).amount_so_far
     return told(call(file, len(file), in_list(entries), len(entries), count))
+
+
+def loaded(seed, p, before):
+    """What serpentgleam_load answers for a buffer that holds some bytes, and the buffer after it."""
+    lent = ctypes.create_string_buffer(before, len(before))
+    answer = told(found(library.load_call)(seed, p, lent, len(before)))
+    return answer, lent.raw
 
 
 def instalments_printed(name, allowance):

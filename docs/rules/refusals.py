@@ -94,6 +94,8 @@ def refusal_table(_):
               "| 18 | Instalments: the lines in the list are not the account's first pairs | C calls "
               '`serpentgleam_pair`, `serpentgleam_amount_so_far` and `serpentgleam_take_apart` alone | |',
               '| 19 | Taking apart: k above the count | C call `serpentgleam_take_apart` alone | |',
+              '| 20 | Load: seed not 1 to 2,147,483,646, p not 1 to 256, or a buffer below 36 + 32 × p bytes | C call '
+              '`serpentgleam_load` alone | |',
               '', '| File | `margin` prints |', '|---|---|']
     lines += [f'| {example} | {answer(example, file(), expected)} |' for example, file, expected in OTHER_FILES]
     return '\n'.join(lines)

@@ -10,17 +10,20 @@
     serpentgleam.pair(data, (), 8)                     # the first pairs, at most 8; with these in place of (), the next ones
     serpentgleam.amount_so_far(data, ())               # the account's amount after these pairs
     serpentgleam.take_apart(data, pairs, 2)            # the pairs left when the latest 2 of these are taken apart
+    serpentgleam.load(99, 8)                           # the bytes of the account file of a seed, with 8 positions
 
 Amounts are in centavos: those of lines and of written rows are whole reais, multiples of 100, premiums are exact, and
 the total is the sum, not rounded. Factors are whole millionths. Calls may be made from any threads.
 """
 from .answers import REASONS, Factors, Left, Margin, Pair, Refusal, Refused
 from .codes import CODES
-from .engine import (amount_so_far, amount_so_far_or_refusal, day, day_or_refusal, factors, factors_or_refusal, margin,
-                     margin_or_refusal, pair, pair_or_refusal, position_amount, take_apart, take_apart_or_refusal)
+from .engine import (amount_so_far, amount_so_far_or_refusal, day, day_or_refusal, factors, factors_or_refusal, load,
+                     load_or_refusal, margin, margin_or_refusal, pair, pair_or_refusal, position_amount, take_apart,
+                     take_apart_or_refusal)
 from .library import NotFound
 
-__version__ = '0.9.0'
+__version__ = '0.10.0'
 __all__ = ['CODES', 'REASONS', 'Factors', 'Left', 'Margin', 'NotFound', 'Pair', 'Refusal', 'Refused', 'amount_so_far',
-           'amount_so_far_or_refusal', 'day', 'day_or_refusal', 'factors', 'factors_or_refusal', 'margin',
-           'margin_or_refusal', 'pair', 'pair_or_refusal', 'position_amount', 'take_apart', 'take_apart_or_refusal']
+           'amount_so_far_or_refusal', 'day', 'day_or_refusal', 'factors', 'factors_or_refusal', 'load',
+           'load_or_refusal', 'margin', 'margin_or_refusal', 'pair', 'pair_or_refusal', 'position_amount', 'take_apart',
+           'take_apart_or_refusal']

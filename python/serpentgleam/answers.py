@@ -19,6 +19,7 @@ REASONS = {  # 3 and 15 are not used; 3 was for an account without positions, wh
     17: "the day's prices: high below low, close outside them, or one of the three not 1 to 10,000,000",
     18: "the lines in the list are not the account's first pairs",
     19: 'more pairs to take apart than there are in the list',
+    20: 'the load asked for: seed not 1 to 2,147,483,646, p not 1 to 256, or a buffer below 36 + 32 x p bytes',
 }
 NO_SUCH_REFUSAL = 'there is no refusal of this number'
 
@@ -69,8 +70,8 @@ class Refusal(NamedTuple):
 
 
 class Refused(Exception):
-    """A file or a question is refused, a day's prices, pairs that are not the first, or more to take apart than there
-    are. Has number, row and reason."""
+    """A file or a question is refused, a day's prices, pairs that are not the first, more to take apart than there are,
+    or a load. Has number, row and reason."""
 
     def __init__(self, refusal: Refusal):
         super().__init__(refusal)

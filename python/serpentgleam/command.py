@@ -7,8 +7,8 @@ from typing import Callable, NamedTuple, Tuple
 from . import __version__, library, usage
 from .answers import Refusal, Refused
 from .codes import NAMES, code_named
-from .engine import (amount_so_far_or_refusal, day_or_refusal, factors_or_refusal, margin_or_refusal, pair,
-                     position_amount)
+from .engine import (amount_so_far_or_refusal, day_or_refusal, factors_or_refusal, load_or_refusal, margin_or_refusal,
+                     pair, position_amount)
 from .forms import number_of
 from .inputs import (STANDARD_INPUT, Unread, called, names_in, read_account_file, read_either, read_text_file, shown)
 from .lines import Unreadable
@@ -21,6 +21,7 @@ from .text import check, file_and_broken_rules, text_from_file
 
 DONE, REFUSED, FAILED = 0, 1, 2
 DAY_NUMBERS = ('the series', 'the high', 'the low', 'the close')  # after the file's name
+LOAD_NUMBERS = ('the seed', 'the number of positions')
 
 
 class Command(NamedTuple):
@@ -114,6 +115,14 @@ def is_whole(word):
     return word.isascii() and word.isdigit()
 
 
+def numbers_named(names, words):
+    """The numbers that some words say, by their names for messages."""
+    for name, word in zip(names, words):
+        if not is_whole(word):
+            raise WrongWords(f'{name} is a whole number from 0 on: {shown(word)}')
+    return [number_of(word) for word in words]
+
+
 def run_position(options):
     if len(options.names) != 2:
         raise WrongWords('position takes a file and a row')
@@ -163,17 +172,11 @@ def file_and_day(words):
     if len(words) != 1 + len(DAY_NUMBERS):
         raise WrongWords("day takes a file, a series, and the day's high, low and close")
     name, *numbers = words
-    for what, number in zip(DAY_NUMBERS, numbers):
-        if not is_whole(number):
-            raise WrongWords(f'{what} is a whole number from 0 on: {shown(number)}')
-    return name, map(number_of, numbers)
+    return name, numbers_named(DAY_NUMBERS, numbers)
 
 
-def run_day(options):
-    name, numbers = file_and_day(options.names)
-    if options.output is None:  # the line of a refusal, which stands on standard output, is not taken for a file
-        raise WrongWords('day writes an account file, and -o names where; it may be the file that is read')
-    answer = day_or_refusal(read_account_file(name), *numbers)
+def write_file(answer, options):
+    """Writes an account file's bytes where the options say; or prints the refusal, and then nothing is written."""
     if isinstance(answer, Refusal):
         print_text(f'refused {answer.number} {answer.row}\n')
         say(answer.reason)
@@ -181,6 +184,22 @@ def run_day(options):
     with output_to(options.output, shown(options.output)) as output:
         output.write(answer)
     return DONE
+
+
+def run_day(options):
+    name, numbers = file_and_day(options.names)
+    if options.output is None:  # the line of a refusal, which stands on standard output, is not taken for a file
+        raise WrongWords('day writes an account file, and -o names where; it may be the file that is read')
+    return write_file(day_or_refusal(read_account_file(name), *numbers), options)
+
+
+def run_load(options):
+    if len(options.names) != len(LOAD_NUMBERS):
+        raise WrongWords('load takes a seed and a number of positions')
+    numbers = numbers_named(LOAD_NUMBERS, options.names)
+    if options.output is None:  # as for a day
+        raise WrongWords('load writes an account file, and -o names where')
+    return write_file(load_or_refusal(*numbers), options)
 
 
 def file_and_allowance(words):
@@ -257,6 +276,7 @@ COMMANDS = {
     'factors': Command(usage.FACTORS, FORMS, run_factors),
     'day': Command(usage.DAY, ('output',), run_day),
     'instalments': Command(usage.INSTALMENTS, FORMS, run_instalments),
+    'load': Command(usage.LOAD, ('output',), run_load),
     'check': Command(usage.CHECK, FILES, run_check),
     'to-text': Command(usage.TO_TEXT, ('output',), run_to_text),
     'to-file': Command(usage.TO_FILE, ('output',), run_to_file),

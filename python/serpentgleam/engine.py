@@ -1,5 +1,5 @@
 """The questions to the proved library: an account's margin, one position's amount, the factors of a series, an account
-file after a day, and an account's pairs in instalments, made and taken apart.
+file after a day, an account's pairs in instalments, made and taken apart, and the account of a load.
 """
 import ctypes
 import operator
@@ -239,6 +239,29 @@ def take_apart(data: bytes, pairs: Sequence[Pair], k: int) -> Tuple[Pair, ...]:
     True
     """
     answer = take_apart_or_refusal(data, pairs, k)
+    if isinstance(answer, Refusal):
+        raise Refused(answer)
+    return answer
+
+
+def load_or_refusal(seed: int, p: int) -> Union[bytes, Refusal]:
+    """The account file of a load, or the refusal: for runs over many seeds, in which no refusal is raised."""
+    numbers = number_for_call(seed, 'a seed is a number'), number_for_call(p, 'p is a number')
+    lent = ctypes.create_string_buffer(library.MOST_LOAD)
+    answer = library.load_call()(*numbers, lent, library.MOST_LOAD)
+    return Refusal(answer.refusal, answer.row) if answer.refusal else lent.raw[:answer.value]
+
+
+def load(seed: int, p: int) -> bytes:
+    """The bytes of the account file of a load: of a seed, 1 to 2,147,483,646, and a number of positions, 1 to 256. The
+    same two numbers give the same bytes on every machine, and every such file is accepted. Raises Refused for any other
+    number (20).
+
+    >>> data = load(seed=99, p=8)
+    >>> len(data), margin(data).total
+    (292, 6040300)
+    """
+    answer = load_or_refusal(seed, p)
     if isinstance(answer, Refusal):
         raise Refused(answer)
     return answer

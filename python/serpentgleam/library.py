@@ -11,6 +11,7 @@ VARIABLE = 'SERPENTGLEAM_LIBRARY_SO'
 MOST_POSITIONS = 256             # of any account
 MOST_LINES = 2 * MOST_POSITIONS  # entries of a list that is long enough for every account: twice its positions
 LINE_NUMBERS = 5                 # of one line
+MOST_LOAD = 8228                 # bytes of a buffer that is long enough for every load
 
 
 class NotFound(Exception):
@@ -119,6 +120,12 @@ def instalment_calls():
 def take_apart_call():
     """The call that takes pairs apart; a library before version 0.8.0 does not have it."""
     return call('take_apart', Answer, *FILE_AND_LIST, ctypes.c_uint64)
+
+
+@functools.lru_cache(maxsize=None)
+def load_call():
+    """The call for a load, which writes to a buffer; a library before version 0.10.0 does not have it."""
+    return call('load', Answer, ctypes.c_uint64, ctypes.c_uint64, ctypes.c_void_p, ctypes.c_size_t)
 
 
 def list_of_lines():

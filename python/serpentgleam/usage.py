@@ -8,6 +8,7 @@ COMMAND = '''usage: serpentgleam COMMAND ..
   factors CODE DAYS      the factors fa and fb of a series, by the circular's row of a code and the days to expiry
   day FILE SERIES ..     the account file after a day: high, low and close of a series
   instalments FILE ..    an account's amount before any pair and after each call, so many pairs a call
+  load SEED P            the account file of a seed and a number of positions, the same on every machine
   check FILE..           every fault of texts and account files, with line, row and field
   to-text [FILE]         an account file as text
   to-file [TEXT]         the account file of a text
@@ -107,6 +108,21 @@ after a tab why.
 ''' + FORMS + '''
 JSON     file, instalments (each with pairs and amount); or file and refused (number, row, reason)
 CSV      file, pairs, amount, number, row, reason
+'''
+
+LOAD = '''usage: serpentgleam load -o OUTPUT SEED P
+
+Writes the account file of a load: one series and P positions, whose prices, factors, sides, barriers and contracts are
+drawn in a fixed order by a generator that begins with the seed. The same SEED and P give the same bytes on every
+machine, and every such file is accepted. All positions are European; none has a limiter, a premium or blocked
+contracts, and there is no cover sheet. The file has 36 + 32 x P bytes.
+
+Nothing is printed. Or refused 20 0, and why on standard error, where the seed is not 1 to 2147483646 or P is not 1 to
+256. Then OUTPUT is not written.
+
+  SEED                   1 to 2147483646
+  P                      how many positions the account has, 1 to 256
+  -o, --output OUTPUT    into this file, which appears whole or not at all
 '''
 
 CHECK = '''usage: serpentgleam check [--json | --csv] [-o OUTPUT] [-q] [--from LIST [-0]] [FILE..]

@@ -28,6 +28,7 @@ AFTER_THE_DAY = os.path.join(TOP, 'examples', 'after_the_day.account')
 WHOLE_REAIS = os.path.join(TOP, 'examples', 'whole_reais.account')
 INSTALMENTS = os.path.join(TOP, 'examples', 'instalments.account')
 BLOCKED = os.path.join(TOP, 'examples', 'blocked.account')
+LOAD = os.path.join(TOP, 'examples', 'load.account')
 SERIES_TEXT = 'series call PV=3000 fa=1.2 fb=0.8 f3=0.05 M=5\n'
 ROOM = 4096  # bytes on a disk that is full after them
 
@@ -110,7 +111,7 @@ class Earlier:
 def earlier_library(test, *missing):
     """While a test runs, the library is one that does not have these calls."""
     for loaded in (library.calls, library.factors_call, library.day_call, library.instalment_calls,
-                   library.take_apart_call):
+                   library.take_apart_call, library.load_call):
         loaded.cache_clear()
         test.addCleanup(loaded.cache_clear)
     patched = mock.patch.object(library, 'load', return_value=Earlier(library.load(), missing))

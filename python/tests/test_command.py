@@ -117,7 +117,7 @@ class Checks(unittest.TestCase):
     def test_examples(self):
         texts = [name.replace('.account', '.txt') for name in EXAMPLES]
         status, output, errors = command('check', *EXAMPLES, *texts)
-        self.assertEqual((status, errors), (1, 'serpentgleam: 24 files: 22 in order, 2 with faults\n'))
+        self.assertEqual((status, errors), (1, 'serpentgleam: 26 files: 24 in order, 2 with faults\n'))
         self.assertEqual(output.decode().split('\n'), [
             f'{WRONG_SIDE}: position row 2, field barrier-price: refusal 11: a down barrier is below PV, unless '
             'knocked-in or knocked-out',
@@ -211,13 +211,14 @@ class Words(unittest.TestCase):
         self.assertEqual(command('--help'), (0, usage.COMMAND.encode(), ''))
         self.assertEqual(command('--version'), (0, f'serpentgleam {serpentgleam.__version__}\n'.encode(), ''))
         for word, said in (('margin', usage.MARGIN), ('position', usage.POSITION), ('factors', usage.FACTORS),
-                           ('day', usage.DAY), ('instalments', usage.INSTALMENTS), ('check', usage.CHECK),
-                           ('to-text', usage.TO_TEXT), ('to-file', usage.TO_FILE)):
+                           ('day', usage.DAY), ('instalments', usage.INSTALMENTS), ('load', usage.LOAD),
+                           ('check', usage.CHECK), ('to-text', usage.TO_TEXT), ('to-file', usage.TO_FILE)):
             self.assertEqual(command(word, '--help'), (0, said.encode(), ''))
             self.assertIn(f'\n  {word} ', usage.COMMAND)
 
     def test_words_that_are_not_known(self):
-        self.check([], 'a command is missing: margin, position, factors, day, instalments, check, to-text, to-file')
+        self.check([], 'a command is missing: margin, position, factors, day, instalments, load, check, to-text, '
+                       'to-file')
         self.check(['margn'], 'there is no command margn; did you mean margin?')
         self.check(['to_text'], 'there is no command to_text; did you mean to-text?')
         self.check(['factor'], 'there is no command factor; did you mean factors?')

@@ -51,12 +51,21 @@ class Numbers(unittest.TestCase):
             'MOST_POSITIONS': limit(layout.TRAILER, 'position count'),
             'MOST_LINES': library.MOST_LINES,
             'MOST_DAYS': 1800,
+            'MOST_SEED': 2 ** 31 - 2,
+            'MOST_LOAD': library.MOST_LOAD,
         })
 
     def test_most_days(self):
         self.assertIsInstance(serpentgleam.factors_or_refusal('FCI', NUMBERS['MOST_DAYS']), serpentgleam.Factors)
         self.assertEqual(serpentgleam.factors_or_refusal('FCI', NUMBERS['MOST_DAYS'] + 1),
                          (NUMBERS['REFUSED_FACTORS_ASKED_FOR'], 0))
+
+    def test_most_of_a_load(self):
+        refusal = (NUMBERS['REFUSED_LOAD_ASKED_FOR'], 0)
+        seed, positions = NUMBERS['MOST_SEED'], NUMBERS['MOST_POSITIONS']
+        self.assertEqual(len(serpentgleam.load(seed, positions)), NUMBERS['MOST_LOAD'])
+        self.assertEqual(serpentgleam.load_or_refusal(seed + 1, positions), refusal)
+        self.assertEqual(serpentgleam.load_or_refusal(seed, positions + 1), refusal)
 
     def test_kinds_of_lines(self):
         self.assertEqual((NUMBERS['PAIR'], NUMBERS['LEFT']), (engine.PAIR, engine.PAIR + 1))
@@ -77,7 +86,7 @@ class Numbers(unittest.TestCase):
 
     def test_no_such_refusal(self):
         sentence = re.search(r'default:\s+return "(.*)";', HEADER)[1]
-        for number in (0, 3, 15, 20):
+        for number in (0, 3, 15, 21):
             self.assertEqual(serpentgleam.Refusal(number, 0).reason, sentence)
 
     def test_structures(self):

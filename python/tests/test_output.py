@@ -31,7 +31,8 @@ class FullDisk(unittest.TestCase):
     def test_no_room_at_all(self):
         for words in self.calls + (['position', DOCUMENT, '0'], ['factors', 'FCI', '720'], ['factors', 'FCI', '1801'],
                                    ['day', DOCUMENT, '1', '1', '1', '1', '-o', self.text], ['check', '--csv', DOCUMENT],
-                                   ['instalments', DOCUMENT, '8'], ['--help'], ['--version'], ['margin', '--help']):
+                                   ['load', '0', '8', '-o', self.text], ['instalments', DOCUMENT, '8'], ['--help'],
+                                   ['--version'], ['margin', '--help']):
             with self.subTest(words), open('/dev/full', 'wb') as full:
                 status, _, errors = command(*words, stdout=full)
                 self.assertEqual((status, errors), (2, 'serpentgleam: standard output: No space left on device; the '
@@ -47,7 +48,7 @@ class FullDisk(unittest.TestCase):
                                                            'output is not whole\n'))
 
     def test_a_file_is_not_there_or_stays_as_it_was(self):
-        for words in (*self.calls[:-1], ['day', self.account, '0', '3100', '2900', '3050']):
+        for words in (*self.calls[:-1], ['day', self.account, '0', '3100', '2900', '3050'], ['load', '99', '256']):
             for before in (None, b'before'):
                 place = folder(self)
                 out = os.path.join(place, 'out')
@@ -124,7 +125,8 @@ class ClosedPipe(unittest.TestCase):
     def test_every_command(self):
         for words in (['margin', *EXAMPLES], ['margin', '--json', *EXAMPLES], ['position', DOCUMENT, '0'],
                       ['factors', 'FCI', '720'], ['day', DOCUMENT, '1', '1', '1', '1', '-o', 'none/out'],
-                      ['instalments', DOCUMENT, '8'], ['check', '--csv', *EXAMPLES], ['to-text', DOCUMENT],
+                      ['instalments', DOCUMENT, '8'], ['load', '0', '8', '-o', 'none/out'],
+                      ['check', '--csv', *EXAMPLES], ['to-text', DOCUMENT],
                       ['to-file', DOCUMENT.replace('.account', '.txt')], ['--help'], ['--version']):
             self.check(*words)
 
