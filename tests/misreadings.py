@@ -11,9 +11,10 @@ bytes after it are not those of crates/day_batch/stdout. With a misreading of in
 the calls in tests/instalments/cases; a case notices where an answer or a list after it is not that of
 tests/instalments/answers.
 With a misreading of the factors it prints the list of all factors; a line notices where it is not that of
-crates/factors_list/stdout.
+crates/factors_list/stdout. With a misreading of the load it writes the list of loads; a case notices where its answer or
+the buffer after it is not that of crates/load_list/stdout.
 
-Needs cargo. Prints five tables in markdown, each with a summary. Exit status 1 where a misreading is noticed by no
+Needs cargo. Prints six tables in markdown, each with a summary. Exit status 1 where a misreading is noticed by no
 account, by no file, by no case, or by no line.
 """
 import os
@@ -31,6 +32,7 @@ import misread_file
 import misread_instalments
 import misread_knocked_out
 import misread_limiters
+import misread_load
 import misread_no_positions
 import misread_order
 import misread_pairs
@@ -44,8 +46,8 @@ from account_batch import amounts_of, answers_of, files_of, framed, vector_bytes
 # What notices, a program of the reference, its input, its output as a list of what can notice, and the misreadings.
 Noticing = namedtuple('Noticing', 'what program given parts_of expected tables')
 
-MODULES = ['account', 'day', 'factors', 'factors_list', 'instalment_cases', 'instalments', 'lines', 'output', 'pairing',
-           'position', 'position_row', 'reader', 'spread']
+MODULES = ['account', 'day', 'draft', 'factors', 'factors_list', 'instalment_cases', 'instalments', 'lines', 'load',
+           'load_list', 'output', 'pairing', 'position', 'position_row', 'reader', 'spread']
 TABLES = [module.TABLE for module in (
     misread_positions, misread_spreads, misread_limiters, misread_pairs, misread_file, misread_no_positions,
     misread_knocked_out, misread_reais, misread_order, misread_blocked)]
@@ -97,6 +99,20 @@ def by_cases_of_instalments():
 def by_lines_of_factors():
     expected = vector_bytes('stdout', 'factors_list')
     return Noticing('line', 'factors_list', b'', bytes.splitlines, expected, [misread_factors.TABLE])
+
+
+def by_cases_of_loads():
+    def cases(output):
+        """Of each case its line, and as many bytes after it as its third number says."""
+        found, at = [], 0
+        while at < len(output):
+            start = output.index(b'\n', at) + 1
+            end = start + int(output[at:start].split()[2]) + 1
+            found.append(output[at:end])
+            at = end
+        return found
+
+    return Noticing('case', 'load_list', b'', cases, vector_bytes('stdout', 'load_list'), [misread_load.TABLE])
 
 
 def sources(program):
@@ -162,7 +178,7 @@ def print_table(noticing):
 def main():
     noticed = []
     for noticing in (by_accounts(), by_files_of_amounts(), by_cases_of_days(), by_cases_of_instalments(),
-                     by_lines_of_factors()):
+                     by_lines_of_factors(), by_cases_of_loads()):
         if noticed:
             print()
         noticed.append(print_table(noticing))

@@ -7,16 +7,18 @@ use std::hint::black_box;
 use bench::day::{day_account, DAY};
 use bench::factors::Tables;
 use bench::instalments::{counts, ALLOWANCE};
+use bench::load::{engine_load, seeds};
 use bench::shapes::{account, Shape, SHAPES};
 use bench::timing::{measure, measure_each, rounds_asked};
 use bench::ways::{lanes, repeated_search, tournament};
-use bench::{empty, pairs_in, List};
+use bench::{empty, pairs_in, value, List};
 use reference::day::{apply_day, Day};
 use reference::factors::Factors;
 use reference::instalments::{amount_so_far, pair_into, take_apart_in};
 use reference::lines::{margin_into_by, Entry};
+use reference::load::load;
 use reference::position::one_position;
-use reference::reader::Refusal;
+use reference::reader::{distance, Refusal};
 
 /// Line count and total, or the refusal.
 type Answer = Result<(usize, i64), Refusal>;
@@ -24,6 +26,7 @@ type Program = fn(&[u8], &mut [Entry]) -> Answer;
 type PositionProgram = fn(&[u8], u64) -> i64;
 type FactorsProgram<'a> = &'a dyn Fn(u64, u64) -> Result<Factors, Refusal>;
 type DayProgram = fn(&mut [u8], &Day) -> Result<(), Refusal>;
+type LoadProgram = fn(u64, u64, &mut [u8]) -> Result<usize, Refusal>;
 
 const PROGRAMS: [Program; 4] = [
     engine,
@@ -33,8 +36,11 @@ const PROGRAMS: [Program; 4] = [
 ];
 const POSITION_PROGRAMS: [PositionProgram; 2] = [library::position_amount, one_position];
 const DAY_PROGRAMS: [DayProgram; 2] = [engine_day, apply_day];
+const LOAD_PROGRAMS: [LoadProgram; 2] = [engine_load, load];
 const SIZES: [u32; 5] = [16, 32, 64, 128, 256];
-/// Calls in one measurement of the factors, the codes in turn, or of a day: one call can be shorter than a look at the clock.
+const LOAD_SIZES: [u64; 3] = [1, 16, 256];
+/// Calls in one measurement of the factors, the codes in turn, of a day, or of the load, each with a seed of its own: one call
+/// can be shorter than a look at the clock.
 const CALLS: usize = 100;
 
 fn engine(file: &[u8], list: &mut [Entry]) -> Answer {
@@ -152,14 +158,6 @@ fn factors_table(rounds: usize) {
     }
 }
 
-/// The value of an answer, or the refusal.
-fn value(answer: library::Answer) -> Result<u64, Refusal> {
-    match answer.refusal {
-        0 => Ok(answer.value),
-        number => Err(Refusal { number: number as i64, row: answer.row as usize }),
-    }
-}
-
 fn engine_day(file: &mut [u8], day: &Day) -> Result<(), Refusal> {
     value(library::day(file, day.series, day.high, day.low, day.close)).map(|_| ())
 }
@@ -196,6 +194,39 @@ fn day_table(rounds: usize) {
         let times = measure(rounds, [engine, reference]);
         let [engine, reference] = times.map(|time| time / CALLS as f64);
         println!("| {size} | {engine:.2} | {reference:.2} | {:.2} |", engine / reference);
+    }
+}
+
+/// The reference's answer and bytes must be the engine's, in a buffer of one byte more than the file.
+fn compare_load(seed: u64, p: u64) {
+    let [engine, reference] = LOAD_PROGRAMS.map(|program| {
+        let mut buffer = vec![0xFF; distance(1, p as usize) + 1];
+        (program(seed, p, &mut buffer), buffer)
+    });
+    assert!(engine == reference, "the load of seed {seed}, {p} rows: the programs differ");
+    assert!(engine.0.is_ok());
+}
+
+fn load_table(rounds: usize) {
+    println!("\n### The load\n");
+    println!("{CALLS} seeds at random, into one buffer.\n");
+    println!("| rows | engine | reference | engine / reference |");
+    println!("|---|---|---|---|");
+    let seeds: &Vec<u64> = &seeds().take(CALLS).collect();
+    SIZES.iter().for_each(|size| compare_load(1, u64::from(*size)));
+    for size in LOAD_SIZES {
+        seeds.iter().for_each(|seed| compare_load(*seed, size));
+        let [engine, reference] = &LOAD_PROGRAMS.map(|program| {
+            move || {
+                let mut buffer = vec![0; distance(1, size as usize)];
+                for seed in seeds {
+                    black_box(program(black_box(*seed), size, black_box(&mut buffer))).ok();
+                }
+            }
+        });
+        let times = measure(rounds, [engine, reference]);
+        let [engine, reference] = times.map(|time| time / CALLS as f64);
+        println!("| {size} | {engine:.3} | {reference:.3} | {:.2} |", engine / reference);
     }
 }
 
@@ -309,6 +340,7 @@ fn main() {
     position_table(rounds);
     factors_table(rounds);
     day_table(rounds);
+    load_table(rounds);
     instalment_table(rounds);
     apart_table(rounds);
 }

@@ -1,10 +1,11 @@
 //! Accounts in the shapes that are measured.
 
 use reference::draft::{
-    Draft, PositionDraft, SeriesDraft, CALL, DOWN_AND_IN, DOWN_AND_OUT, HELD, NO_BARRIER,
-    UP_AND_IN, UP_AND_OUT, WRITTEN,
+    Draft, PositionDraft, SeriesDraft, CALL, HELD, UP_AND_IN, UP_AND_OUT, WRITTEN,
 };
 use reference::random::Random;
+
+use crate::load::load;
 
 /// What a shape makes of row i of n.
 type Change = fn(&mut Random, u32, u32, &mut PositionDraft);
@@ -13,12 +14,18 @@ pub struct Shape {
     pub name: &'static str,
     /// Do its rows pair?
     pub pairs: bool,
-    series: usize,
-    change: Change,
+    pub rows: Rows,
+}
+
+pub enum Rows {
+    /// Of so many call series, written and held by turns.
+    Made(usize, Change),
+    /// The load of this seed. It has at least one row.
+    Load(u64),
 }
 
 const fn shape(name: &'static str, pairs: bool, series: usize, change: Change) -> Shape {
-    Shape { name, pairs, series, change }
+    Shape { name, pairs, rows: Rows::Made(series, change) }
 }
 
 pub const SHAPES: [Shape; 21] = [
@@ -36,7 +43,7 @@ pub const SHAPES: [Shape; 21] = [
         }
     }),
     shape("eight series", true, 8, |random, _, _, row| row.series = random.between(0, 7) as u16),
-    shape("random barriers", true, 1, |random, _, _, row| *row = random_barrier(random, *row)),
+    Shape { name: "load, seed 1", pairs: true, rows: Rows::Load(1) },
     shape("knock-outs alone", true, 1, |random, _, _, row| {
         up_and_out(row, random.between(3300, 3799) as u32)
     }),
@@ -95,17 +102,6 @@ fn up_and_out(row: &mut PositionDraft, barrier: u32) {
     *row = row.with_barrier(UP_AND_OUT, barrier, 20);
 }
 
-fn random_barrier(random: &mut Random, row: PositionDraft) -> PositionDraft {
-    let kind = random.pick(&[NO_BARRIER, UP_AND_IN, DOWN_AND_IN, UP_AND_OUT, DOWN_AND_OUT]);
-    let first = match kind {
-        NO_BARRIER => return row,
-        UP_AND_IN | UP_AND_OUT => 3300,
-        _ => 2200,
-    };
-    let price = first + 100 * random.between(0, 5) as u32;
-    row.with_barrier(kind, price, random.between(0, 99) as u32)
-}
-
 /// A limiter of its own on each row, every held one nearer than every written one.
 fn limiters(_: &mut Random, i: u32, _: u32, row: &mut PositionDraft) {
     *row = row.with_limiter(if row.side == WRITTEN { 3600 + i } else { 3300 + i });
@@ -127,17 +123,24 @@ fn hostile_knock_out(random: &mut Random, i: u32, n: u32, row: &mut PositionDraf
     up_and_out(row, if row.side == WRITTEN { 3500 } else { 3600 });
 }
 
-/// An account of n rows in a shape, written and held by turns.
+/// An account of n rows in a shape.
 pub fn account(shape: &Shape, n: u32) -> Vec<u8> {
+    match shape.rows {
+        Rows::Made(series, change) => made(series, change, n),
+        Rows::Load(seed) => load(seed, u64::from(n)),
+    }
+}
+
+fn made(series: usize, change: Change, n: u32) -> Vec<u8> {
     let mut random = Random::new(1);
     let row = |i: u32| {
         let side = [WRITTEN, HELD][i as usize % 2];
         let quantity = random.between(1, 100) as u32;
         let strike = random.between(2900, 3299) as u32;
         let mut row = PositionDraft::plain(0, side, strike, quantity);
-        (shape.change)(&mut random, i, n, &mut row);
+        change(&mut random, i, n, &mut row);
         row
     };
     let rows = (0..n).map(row).collect();
-    Draft::new(vec![SeriesDraft::checked(CALL); shape.series], rows).bytes()
+    Draft::new(vec![SeriesDraft::checked(CALL); series], rows).bytes()
 }

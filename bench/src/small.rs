@@ -1,28 +1,20 @@
 //! Many small accounts at random, to be measured one after another: which of two numbers in a margin rule is the larger
 //! cannot be told from the accounts before.
 
-use std::iter::repeat_with;
+use reference::draft::{DOWN_AND_IN, DOWN_AND_OUT, NO_BARRIER, UP_AND_IN, UP_AND_OUT, WRITTEN};
+use reference::reader::SERIES_BYTES;
 
-use reference::draft::{
-    Draft, PositionDraft, DOWN_AND_IN, DOWN_AND_OUT, NO_BARRIER, UP_AND_IN, UP_AND_OUT, WRITTEN,
-};
-use reference::random::Random;
-use reference::sample::{sample_account, Shape};
+use crate::load::{load, seeds};
 
-/// So many that a processor cannot predict which number is the larger from what it met before. An AMD EPYC still can with
-/// 256 small accounts, or 4,096 single positions of one kind; with 16,384 positions one takes nearly as long as with these.
+/// So many that a processor cannot predict which number is the larger from what it met before. Of the accounts measured before
+/// version 0.10.0 an AMD EPYC still could with 256 small ones, or 4,096 single positions of one kind; with 16,384 positions one
+/// took nearly as long as with these.
 const SMALL_ACCOUNTS: usize = 4_096;
 const SINGLE_POSITIONS: usize = 32_768;
 
-const SMALL: Shape = Shape {
-    series: (1, 2),
-    positions: (2, 8),
-    pv: (900, 4_000),
-    quantity: (1, 100),
-    m: (1, 10),
-    fb_above_one: false,
-};
-const SINGLE: Shape = Shape { series: (1, 1), positions: (1, 1), ..SMALL };
+/// Where side and kind of the first row stand in a load: after the series row and the two bytes of the row's series.
+const SIDE_AT: usize = SERIES_BYTES + 2;
+const KIND_AT: usize = SERIES_BYTES + 3;
 
 /// Kinds of barrier of single positions, by name.
 pub const KINDS: [(&str, &[u8]); 6] = [
@@ -34,23 +26,16 @@ pub const KINDS: [(&str, &[u8]); 6] = [
     ("down-and-out", &[DOWN_AND_OUT]),
 ];
 
-/// Accounts of 2 to 8 rows.
+/// Loads of 2 to 8 rows.
 pub fn small_accounts() -> Vec<Vec<u8>> {
-    let mut random = Random::new(1);
-    (0..SMALL_ACCOUNTS).map(|_| sample_account(&mut random, &SMALL).bytes()).collect()
+    seeds().map(|seed| load(seed, 2 + seed % 7)).take(SMALL_ACCOUNTS).collect()
 }
 
-/// Accounts of one written row, of one of the kinds.
+/// Loads of one row that is written, of one of the kinds.
 pub fn single_positions(kinds: &[u8]) -> Vec<Vec<u8>> {
-    let mut random = Random::new(1);
-    repeat_with(|| sample_account(&mut random, &SINGLE))
-        .filter(|draft| kinds.contains(&draft.positions[0].kind))
-        .map(|draft| with_row_written(draft).bytes())
+    seeds()
+        .map(|seed| load(seed, 1))
+        .filter(|file| file[SIDE_AT] == WRITTEN && kinds.contains(&file[KIND_AT]))
         .take(SINGLE_POSITIONS)
         .collect()
-}
-
-fn with_row_written(mut draft: Draft) -> Draft {
-    draft.positions[0] = PositionDraft { side: WRITTEN, premium: 0, ..draft.positions[0] };
-    draft
 }

@@ -1,12 +1,13 @@
-//! Every way gives the lines and the total of the reference, and the tables its factors. Of the single positions of each kind
-//! at least a quarter are at the minimum margin and a quarter above it. The measured day touches about half of the barriers,
-//! and the measured instalments make all pairs.
+//! Every way gives the lines and the total of the reference, and the tables its factors. The accounts at random are loads with
+//! the rows asked for. Of the single positions of each kind at least an eighth are at the minimum margin and an eighth above
+//! it. The measured day touches about half of the barriers, and the measured instalments make all pairs.
 
 use std::collections::HashSet;
 use std::mem::discriminant;
 
-use reference::account::Barrier;
+use reference::account::{Barrier, Limiter, Position, Side};
 use reference::day::apply_day;
+use reference::draft::{DOWN_AND_IN, DOWN_AND_OUT, NO_BARRIER, UP_AND_IN, UP_AND_OUT};
 use reference::factors::factors;
 use reference::factors_list::codes_and_days;
 use reference::instalments::pair_into;
@@ -19,7 +20,8 @@ use reference::sample::{limited_alike, sample_account, some_blocked, Shape};
 use crate::day::{day_account, DAY};
 use crate::factors::Tables;
 use crate::instalments::{counts, ALLOWANCE};
-use crate::shapes::{account, SHAPES};
+use crate::load::load;
+use crate::shapes::{account, Rows, SHAPES};
 use crate::small::{single_positions, small_accounts, KINDS};
 use crate::ways::{lanes, repeated_search, tournament};
 use crate::{empty, pairs_in};
@@ -46,7 +48,10 @@ fn pairs_made(file: &[u8], name: &str) -> usize {
 #[test]
 fn on_every_shape() {
     for shape in &SHAPES {
-        for size in [0, 1, 2, 3, 16, 17, 64, 128, 255, 256] {
+        for size in [0, 1, 2, 3, 16, 17, 32, 64, 128, 255, 256] {
+            if size == 0 && matches!(shape.rows, Rows::Load(_)) {
+                continue;
+            }
             let pairs = pairs_made(&account(shape, size), shape.name);
             assert!(size < 16 || shape.pairs == (pairs > 0), "{}", shape.name);
         }
@@ -89,7 +94,51 @@ fn on_random_accounts() {
 fn on_small_accounts() {
     let files = small_accounts();
     let pairs: usize = files.iter().map(|file| pairs_made(file, "small accounts")).sum();
-    assert!(pairs > files.len() / 2, "{pairs} pairs");
+    assert!(pairs > files.len() / 4, "{pairs} pairs");
+}
+
+/// The rows of a load: of one series, European, and with nothing beside a barrier and its rebate.
+fn rows_of_load(file: &[u8]) -> Vec<Position> {
+    let account = read_account(file).unwrap();
+    assert_eq!(account.series.len(), 1);
+    for row in &account.positions {
+        assert!(row.european && !row.opened_before_annex && row.limiter == Limiter::Absent);
+        assert_eq!((row.blocked, row.premium), (0, 0));
+    }
+    account.positions
+}
+
+#[test]
+fn accounts_at_random_are_loads() {
+    let shape = SHAPES.iter().find(|shape| shape.name == "load, seed 1").expect("the load");
+    for p in [1, 16, 255, 256] {
+        let file = load(1, u64::from(p));
+        assert_eq!(rows_of_load(&file).len(), p as usize);
+        assert!(account(shape, p) == file && day_account(p) == file);
+    }
+    let rows: HashSet<_> = small_accounts().iter().map(|file| rows_of_load(file).len()).collect();
+    assert_eq!(rows, (2..=8).collect());
+}
+
+#[test]
+fn single_positions_are_loads_of_their_kinds() {
+    for (name, kinds) in KINDS {
+        let files = single_positions(kinds);
+        let rows: Vec<_> = files.iter().map(|file| rows_of_load(file)).collect();
+        assert!(rows.iter().all(|rows| rows.len() == 1 && rows[0].side == Side::Written), "{name}");
+        let met: HashSet<_> = rows.iter().map(|rows| kind(&rows[0])).collect();
+        assert_eq!(met, kinds.iter().copied().collect(), "{name}");
+    }
+}
+
+fn kind(row: &Position) -> u8 {
+    match row.barrier {
+        Barrier::None => NO_BARRIER,
+        Barrier::UpAndIn(_) => UP_AND_IN,
+        Barrier::DownAndIn(_) => DOWN_AND_IN,
+        Barrier::UpAndOut(_) => UP_AND_OUT,
+        Barrier::DownAndOut(_) => DOWN_AND_OUT,
+    }
 }
 
 /// Is the unit margin of the file's first row the minimum margin?
@@ -103,9 +152,9 @@ fn at_minimum(file: &[u8]) -> bool {
 fn single_positions_at_and_above_the_minimum() {
     for (name, kinds) in KINDS {
         let files = single_positions(kinds);
-        let quarter = files.len() / 4;
+        let eighth = files.len() / 8;
         let least = files.iter().filter(|file| at_minimum(file)).count();
-        assert!((quarter..=3 * quarter).contains(&least), "{name}: {least}");
+        assert!((eighth..=7 * eighth).contains(&least), "{name}: {least}");
     }
 }
 

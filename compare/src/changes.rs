@@ -7,6 +7,7 @@ use crate::changed_amounts::{change_amount, change_lines, up_to_real};
 use crate::changed_blocked;
 use crate::changed_days::{change_answer, change_applied, change_refused, day_asked, write_beside};
 use crate::changed_instalments;
+use crate::changed_loads;
 use crate::implementation::{Answer, Factors, Implementation, Line, Margin};
 use crate::list::List;
 
@@ -149,11 +150,50 @@ pub enum Change {
     ApartOnRefusal,
     ApartOnOtherLines,
     ApartRoomP,
+    LoadSeedCut,
+    LoadSeedZero,
+    LoadSeedEnd,
+    LoadPCut,
+    LoadPZero,
+    LoadPMore,
+    LoadBytesCut,
+    LoadStateBefore,
+    LoadStepMore,
+    LoadDrawsSwapped,
+    LoadTypeFirst,
+    LoadRowsAlike,
+    LoadLastRow,
+    LoadRow256,
+    LoadGreatestSeed,
+    LoadFlags,
+    LoadNoFlags,
+    LoadSpareKept,
+    LoadSeriesSpareKept,
+    LoadPremiumKept,
+    LoadKindZero,
+    LoadDistance,
+    LoadLastFourKept,
+    LoadRoomShort,
+    LoadRoomAny,
+    LoadRoomExact,
+    LoadRoomRefused,
+    LoadByteAfter,
+    LoadRestZeroed,
+    LoadAtEnd,
+    LoadBeside,
+    LoadValueRoom,
+    LoadValueRows,
+    LoadRefusalNumber,
+    LoadRefusalRow,
+    LoadRefusalValue,
+    LoadOnRefusal,
+    LoadShortWritten,
+    LoadLines,
     FileWritten,
     ReadingOutside,
 }
 
-pub const CHANGES: [(&str, Change); 139] = [
+pub const CHANGES: [(&str, Change); 178] = [
     ("total", Change::Total),
     ("line-count", Change::LineCount),
     ("line-amount", Change::LineAmount),
@@ -291,6 +331,45 @@ pub const CHANGES: [(&str, Change); 139] = [
     ("apart-on-refusal", Change::ApartOnRefusal),
     ("apart-on-other-lines", Change::ApartOnOtherLines),
     ("apart-room-p", Change::ApartRoomP),
+    ("load-seed-cut", Change::LoadSeedCut),
+    ("load-seed-zero", Change::LoadSeedZero),
+    ("load-seed-end", Change::LoadSeedEnd),
+    ("load-p-cut", Change::LoadPCut),
+    ("load-p-zero", Change::LoadPZero),
+    ("load-p-more", Change::LoadPMore),
+    ("load-bytes-cut", Change::LoadBytesCut),
+    ("load-state-before", Change::LoadStateBefore),
+    ("load-step-more", Change::LoadStepMore),
+    ("load-draws-swapped", Change::LoadDrawsSwapped),
+    ("load-type-first", Change::LoadTypeFirst),
+    ("load-rows-alike", Change::LoadRowsAlike),
+    ("load-last-row", Change::LoadLastRow),
+    ("load-row-256", Change::LoadRow256),
+    ("load-greatest-seed", Change::LoadGreatestSeed),
+    ("load-flags", Change::LoadFlags),
+    ("load-no-flags", Change::LoadNoFlags),
+    ("load-spare-kept", Change::LoadSpareKept),
+    ("load-series-spare-kept", Change::LoadSeriesSpareKept),
+    ("load-premium-kept", Change::LoadPremiumKept),
+    ("load-kind-zero", Change::LoadKindZero),
+    ("load-distance", Change::LoadDistance),
+    ("load-last-four-kept", Change::LoadLastFourKept),
+    ("load-room-short", Change::LoadRoomShort),
+    ("load-room-any", Change::LoadRoomAny),
+    ("load-room-exact", Change::LoadRoomExact),
+    ("load-room-refused", Change::LoadRoomRefused),
+    ("load-byte-after", Change::LoadByteAfter),
+    ("load-rest-zeroed", Change::LoadRestZeroed),
+    ("load-at-end", Change::LoadAtEnd),
+    ("load-beside", Change::LoadBeside),
+    ("load-value-room", Change::LoadValueRoom),
+    ("load-value-rows", Change::LoadValueRows),
+    ("load-refusal-number", Change::LoadRefusalNumber),
+    ("load-refusal-row", Change::LoadRefusalRow),
+    ("load-refusal-value", Change::LoadRefusalValue),
+    ("load-on-refusal", Change::LoadOnRefusal),
+    ("load-short-written", Change::LoadShortWritten),
+    ("load-lines", Change::LoadLines),
     ("file-written", Change::FileWritten),
     ("reading-outside", Change::ReadingOutside),
 ];
@@ -317,6 +396,7 @@ impl Implementation for Changed<'_> {
         if margin.refusal == 0 {
             change_lines(self.change, file, &mut margin, entries);
             change_accepted(self.change, &mut margin, entries);
+            changed_loads::change_lines(self.change, file, &mut margin);
         } else {
             change_list_refused(self.change, &mut margin, entries, room);
         }
@@ -395,6 +475,10 @@ impl Implementation for Changed<'_> {
     fn call(&self, file: &[u8], list: &mut List, call: Call) -> Answer {
         touch(file, self.change);
         changed_instalments::answer(self.change, self.of, file, list, call)
+    }
+
+    fn load(&self, seed: u64, p: u64, buffer: &mut [u8]) -> Answer {
+        changed_loads::answer(self.change, self.of, (seed, p), buffer)
     }
 }
 

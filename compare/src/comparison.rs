@@ -1,4 +1,4 @@
-//! Both answers to each question about a file, and to each one for the factors.
+//! Both answers to each question about a file, and to each one for the factors or for a load.
 
 use std::fmt;
 
@@ -13,6 +13,7 @@ use crate::implementation::{self, Factors, Implementation, Line, Margin};
 use crate::instalments::compare_instalments;
 use crate::lending::{Lending, Place};
 use crate::list::{content_before, List};
+use crate::loads::{self, Drawn, Load};
 use crate::questions::{questions, Question};
 use crate::summary::Summary;
 
@@ -30,6 +31,8 @@ pub enum Answer {
     Day(implementation::Answer, Vec<u8>),
     /// With the whole list as it was left, and the entries beside it.
     Call(Call, implementation::Answer, Vec<Line>),
+    /// With the whole buffer as it was left.
+    Load(implementation::Answer, Vec<u8>),
 }
 
 #[derive(Clone, Debug, PartialEq, Eq)]
@@ -210,6 +213,57 @@ pub fn compare_factors(
     Ok(())
 }
 
+/// The same for a load: the answer, and the whole buffer. The file that is made may be asked about.
+pub fn compare_load(
+    drawn: &Drawn,
+    reference: &dyn Implementation,
+    library: &dyn Implementation,
+    lending: &mut Lending,
+    summary: &mut Summary,
+) -> Result<(), Box<Difference>> {
+    let Drawn { load: load @ Load { seed, p, room }, ref before, place, lines } = *drawn;
+    let question = Question::Load(load);
+    let mut after = before.clone();
+    let answer = reference.load(seed, p, &mut after);
+    let expected = Answer::Load(answer, after.clone());
+    let copy = lending.lend_to_write(before, place);
+    let found = library.load(seed, p, copy);
+    same(question, &expected, Answer::Load(found, copy.to_vec()))?;
+    if !lending.marks_kept(room, place) {
+        return Err(Box::new(Difference::WrittenBeside { question }));
+    }
+    summary.add_answer(&expected, loads::expectation(&load));
+    if answer.refusal == 0 && lines {
+        let file = &after[..answer.value as usize];
+        let copy = lending.lend(file)[usize::from(place == Place::BeforeForbidden)];
+        compare_made(file, copy, 2 * p as usize, reference, library, summary)?;
+    }
+    Ok(())
+}
+
+/// The lines of a file that a load made, in a list of so many entries. Every such file is accepted.
+fn compare_made(
+    file: &[u8],
+    copy: &[u8],
+    room: usize,
+    reference: &dyn Implementation,
+    library: &dyn Implementation,
+    summary: &mut Summary,
+) -> Result<(), Box<Difference>> {
+    let question = Question::Margin { room };
+    let expected = answer(reference, file, question);
+    assert!(
+        matches!(expected, Answer::Margin(Margin { refusal: 0, .. }, _)),
+        "the reference refuses a file that it made: {expected:?}"
+    );
+    same(question, &expected, answer(library, copy, question))?;
+    if copy != file {
+        return Err(Box::new(Difference::FileWrittenTo { question }));
+    }
+    summary.add_answer(&expected, "made by a load");
+    Ok(())
+}
+
 fn same(question: Question, expected: &Answer, found: Answer) -> Result<(), Box<Difference>> {
     if found == *expected {
         return Ok(());
@@ -235,6 +289,10 @@ fn answer(implementation: &dyn Implementation, file: &[u8], question: Question) 
         Question::Instalment { room, call } => {
             call_answer(implementation, file, &mut List::marked(room), call).1
         }
+        Question::Load(Load { seed, p, room }) => {
+            let mut buffer = vec![0; room];
+            Answer::Load(implementation.load(seed, p, &mut buffer), buffer)
+        }
     }
 }
 
@@ -245,7 +303,7 @@ impl fmt::Display for Difference {
                 write!(out, "asked: {question:?}\nthe file's bytes were written to")
             }
             Difference::WrittenBeside { question } => {
-                write!(out, "asked: {question:?}\nbytes beside the file were written to")
+                write!(out, "asked: {question:?}\nbytes beside the file or buffer were written to")
             }
             Difference::Answers { question, reference, library } => {
                 write_both(out, question, reference, library)
@@ -278,17 +336,19 @@ fn first_part(answer: &Answer) -> String {
         Answer::Factors(factors) => format!("{factors:?}"),
         Answer::Day(answer, _) => format!("{answer:?}"),
         Answer::Call(_, answer, _) => format!("{answer:?}"),
+        Answer::Load(answer, _) => format!("{answer:?}"),
     }
 }
 
-/// The first entry of the list, or byte of the file, that differs, if there is one.
+/// The first entry of the list, or byte of the file or buffer, that differs, if there is one.
 fn write_other_entry(out: &mut fmt::Formatter, one: &Answer, other: &Answer) -> fmt::Result {
     match (one, other) {
         (Answer::Margin(_, expected), Answer::Margin(_, found))
         | (Answer::Call(_, _, expected), Answer::Call(_, _, found)) => {
             write_first_other(out, "entry", expected, found)
         }
-        (Answer::Day(_, expected), Answer::Day(_, found)) => {
+        (Answer::Day(_, expected), Answer::Day(_, found))
+        | (Answer::Load(_, expected), Answer::Load(_, found)) => {
             write_first_other(out, "byte", expected, found)
         }
         _ => Ok(()),

@@ -4,7 +4,7 @@ use std::ffi::c_int;
 use std::ptr::null_mut;
 use std::sync::atomic::{AtomicPtr, Ordering};
 
-use compare::files::File;
+use crate::Subject;
 
 const BUS_ERROR: c_int = 7;
 const SEGMENTATION_FAULT: c_int = 11;
@@ -13,12 +13,12 @@ extern "C" {
     fn signal(number: c_int, handler: extern "C" fn(c_int)) -> usize;
 }
 
-static FILE: AtomicPtr<File> = AtomicPtr::new(null_mut());
+static SUBJECT: AtomicPtr<Subject> = AtomicPtr::new(null_mut());
 
-/// The file to report where a fault comes before the next one is named. It must live that long.
-pub fn asking_about(file: Option<&File>) {
-    let file = file.map_or(null_mut(), |file| (file as *const File).cast_mut());
-    FILE.store(file, Ordering::SeqCst);
+/// The subject to report where a fault comes before the next one is named. It must live that long.
+pub fn asking_about(subject: Option<&Subject>) {
+    let subject = subject.map_or(null_mut(), |subject| (subject as *const Subject).cast_mut());
+    SUBJECT.store(subject, Ordering::SeqCst);
 }
 
 pub fn report_faults() {
@@ -31,8 +31,13 @@ pub fn report_faults() {
 
 /// The library takes no memory and holds no lock, so that the report can be made from here.
 extern "C" fn on_fault(_number: c_int) {
-    // SAFETY: null, or a file that lives while it is asked about.
-    let file = unsafe { FILE.load(Ordering::SeqCst).as_ref() };
-    crate::report(file, "the library read or wrote memory that was not lent to it");
+    // SAFETY: null, or a subject that lives while it is asked about.
+    let subject = unsafe { SUBJECT.load(Ordering::SeqCst).as_ref() };
+    match subject {
+        Some(subject) => {
+            crate::report(subject, "the library read or wrote memory that was not lent to it");
+        }
+        None => println!("memory was read or written that may not be"),
+    }
     std::process::exit(1);
 }

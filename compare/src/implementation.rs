@@ -5,6 +5,7 @@ use reference::day::{apply_day, Day};
 use reference::factors::factors;
 use reference::instalment_cases::Call;
 use reference::lines::{margin_into, premiums};
+use reference::load::load;
 use reference::position::one_position;
 use reference::reader::Refusal;
 
@@ -25,6 +26,9 @@ pub trait Implementation {
 
     /// A call about the pairs in the list, which is left as the call leaves it.
     fn call(&self, file: &[u8], list: &mut List, call: Call) -> Answer;
+
+    /// The file that is made is left in the buffer.
+    fn load(&self, seed: u64, p: u64, buffer: &mut [u8]) -> Answer;
 }
 
 pub struct Reference;
@@ -67,6 +71,10 @@ impl Implementation for Reference {
 
     fn call(&self, file: &[u8], list: &mut List, call: Call) -> Answer {
         number_or_refusal(call.answer(file, list.lines_mut()))
+    }
+
+    fn load(&self, seed: u64, p: u64, buffer: &mut [u8]) -> Answer {
+        number_or_refusal(load(seed, p, buffer).map(|bytes| bytes as u64))
     }
 }
 

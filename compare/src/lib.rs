@@ -1,4 +1,5 @@
-//! Comparison of the library with the reference, on files made from a seed, and of all factors.
+//! Comparison of the library with the reference, on files made from a seed, and of all factors and
+//! loads.
 //!
 //! Reading order:
 //!
@@ -10,17 +11,20 @@
 //! 6. [`days`]: the days that a file is brought up to date with
 //! 7. [`instalments`]: lists, counts and allowances for pairing in instalments, and pairs taken apart
 //! 8. [`codes_and_days`]: what the factors are asked for
-//! 9. [`lending`]: the memory in which the library gets a file
-//! 10. [`comparison`]: both answers to each question
-//! 11. [`summary`]: what was compared
-//! 12. [`changes`], [`changed_amounts`], [`changed_days`], [`changed_instalments`], [`changed_apart`] and
-//!     [`changed_blocked`]: deliberately changed answers, to see that they are found
+//! 9. [`loads`]: the loads that are asked for
+//! 10. [`lending`]: the memory in which the library gets a file or a buffer
+//! 11. [`comparison`]: both answers to each question
+//! 12. [`summary`]: what was compared
+//! 13. [`changes`], [`changed_amounts`], [`changed_days`], [`changed_instalments`], [`changed_apart`],
+//!     [`changed_blocked`] and [`changed_loads`]: deliberately changed answers, to see that they are
+//!     found
 
 pub mod changed_amounts;
 pub mod changed_apart;
 pub mod changed_blocked;
 pub mod changed_days;
 pub mod changed_instalments;
+pub mod changed_loads;
 pub mod changes;
 pub mod codes_and_days;
 pub mod comparison;
@@ -31,6 +35,7 @@ pub mod implementation;
 pub mod instalments;
 pub mod lending;
 pub mod list;
+pub mod loads;
 pub mod questions;
 pub mod random_files;
 pub mod structured;
@@ -40,5 +45,7 @@ pub mod summary;
 mod blocked_tests;
 #[cfg(test)]
 mod instalment_tests;
+#[cfg(test)]
+mod load_tests;
 #[cfg(test)]
 mod tests;

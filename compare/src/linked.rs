@@ -37,4 +37,8 @@ impl Implementation for Library {
             Call::Apart { count, k } => library::take_apart(file, lines, count, k),
         }
     }
+
+    fn load(&self, seed: u64, p: u64, buffer: &mut [u8]) -> Answer {
+        library::load(seed, p, buffer)
+    }
 }

@@ -1,6 +1,6 @@
 //! `compare [SECONDS] [SEED] [files=NUMBER] [change=NAME]` compares the library with the reference,
-//! all factors first and then files until the time is over or so many are compared, and stops at the
-//! first difference.
+//! all factors first and then files, each with a load, until the time is over or so many are
+//! compared, and stops at the first difference.
 
 mod fault;
 mod linked;
@@ -9,11 +9,12 @@ use std::process::ExitCode;
 use std::time::{Duration, Instant};
 
 use compare::changes::{Change, Changed, CHANGES};
-use compare::codes_and_days::{asked_once, drawn};
-use compare::comparison::{compare_factors, compare_file, Difference};
+use compare::codes_and_days::{self, asked_once};
+use compare::comparison::{compare_factors, compare_file, compare_load, Difference};
 use compare::files::{file, File};
 use compare::implementation::{Implementation, Reference};
 use compare::lending::Lending;
+use compare::loads::{self, Drawn};
 use compare::summary::Summary;
 use linked::Library;
 
@@ -39,8 +40,8 @@ fn main() -> ExitCode {
             println!("{summary}");
             ExitCode::SUCCESS
         }
-        Err((file, difference)) => {
-            report(file.as_ref(), &difference.to_string());
+        Err((subject, difference)) => {
+            report(&subject, &difference.to_string());
             ExitCode::FAILURE
         }
     }
@@ -64,8 +65,37 @@ fn request_of(words: impl Iterator<Item = String>) -> Option<Request> {
     Some(Request { seconds, seed, files, change })
 }
 
-/// A difference, and the file where it is about one.
-type Found = (Option<File>, Box<Difference>);
+/// What both are asked about.
+enum Subject {
+    Factors { code: u64, days: u64 },
+    File(File),
+    Load(Drawn),
+}
+
+/// A difference, and what it is about.
+type Found = (Subject, Box<Difference>);
+
+struct Run<'a> {
+    library: &'a dyn Implementation,
+    lending: Lending,
+    summary: Summary,
+}
+
+impl Run<'_> {
+    fn ask(&mut self, subject: Subject) -> Result<(), Found> {
+        fault::asking_about(Some(&subject));
+        let (library, lending, summary) = (self.library, &mut self.lending, &mut self.summary);
+        let compared = match &subject {
+            Subject::Factors { code, days } => {
+                compare_factors((*code, *days), &Reference, library, summary)
+            }
+            Subject::File(file) => compare_file(file, &Reference, library, lending, summary),
+            Subject::Load(drawn) => compare_load(drawn, &Reference, library, lending, summary),
+        };
+        fault::asking_about(None);
+        compared.map_err(|difference| (subject, difference))
+    }
+}
 
 fn compare_all(request: &Request, start: Instant) -> Result<Summary, Found> {
     let changed;
@@ -76,33 +106,33 @@ fn compare_all(request: &Request, start: Instant) -> Result<Summary, Found> {
             &changed
         }
     };
-    let mut lending = Lending::new();
-    let mut summary = Summary::default();
-    let about_factors = |code_and_days, summary: &mut Summary| {
-        fault::asking_about(None);
-        compare_factors(code_and_days, &Reference, library, summary)
-            .map_err(|difference| (None, difference))
-    };
-    for code_and_days in asked_once() {
-        about_factors(code_and_days, &mut summary)?;
+    let mut run = Run { library, lending: Lending::new(), summary: Summary::default() };
+    for (code, days) in asked_once() {
+        run.ask(Subject::Factors { code, days })?;
     }
-    while start.elapsed() < Duration::from_secs(request.seconds) && summary.files < request.files {
-        let file = file(request.seed, summary.files);
-        fault::asking_about(Some(&file));
-        let compared = compare_file(&file, &Reference, library, &mut lending, &mut summary);
-        if let Err(difference) = compared {
-            return Err((Some(file), difference));
-        }
-        about_factors(drawn(request.seed, file.number), &mut summary)?;
+    let until = Duration::from_secs(request.seconds);
+    while start.elapsed() < until && run.summary.files < request.files {
+        let number = run.summary.files;
+        run.ask(Subject::File(file(request.seed, number)))?;
+        let (code, days) = codes_and_days::drawn(request.seed, number);
+        run.ask(Subject::Factors { code, days })?;
+        run.ask(Subject::Load(loads::drawn(request.seed, number)))?;
     }
-    Ok(summary)
+    Ok(run.summary)
 }
 
 /// Says what is different, and writes the file to `difference.account` in the current folder.
-fn report(file: Option<&File>, difference: &str) {
-    let Some(file) = file else {
-        println!("the factors\n{difference}");
-        return;
+fn report(subject: &Subject, difference: &str) {
+    let file = match subject {
+        Subject::Factors { code, days } => {
+            println!("the factors of code {code} and {days} days\n{difference}");
+            return;
+        }
+        Subject::Load(drawn) => {
+            println!("{:?}\n{difference}", drawn.load);
+            return;
+        }
+        Subject::File(file) => file,
     };
     println!("file {}, {}: {}", file.number, file.family.name(), file.kinds.join(", "));
     println!("{difference}");

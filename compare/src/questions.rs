@@ -1,8 +1,10 @@
-//! What is asked: about a file, or for the factors.
+//! What is asked: about a file, for the factors, or for a load.
 
 use reference::day::Day;
 use reference::instalment_cases::Call;
 use reference::random::Random;
+
+use crate::loads::Load;
 
 #[derive(Clone, Copy, Debug, PartialEq, Eq)]
 pub enum Question {
@@ -20,6 +22,8 @@ pub enum Question {
     SameDay(Day),
     /// Pairs in instalments, the amount so far or pairs taken apart, with a list of so many entries.
     Instalment { room: usize, call: Call },
+    /// A load, about no file.
+    Load(Load),
 }
 
 /// A question, and what it is asked for.

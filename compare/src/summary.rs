@@ -37,6 +37,8 @@ pub struct Summary {
     so_far_calls: Tally,
     apart_calls: Tally,
     taken_apart: u64,
+    load_calls: Tally,
+    loaded_bytes: u64,
     lines: u64,
     entries_kept: u64,
 }
@@ -89,6 +91,10 @@ impl Summary {
             Answer::Call(Call::Apart { k, .. }, answer, _) => {
                 self.apart_calls.add(purpose);
                 self.taken_apart += if answer.refusal == 0 { *k } else { 0 };
+            }
+            Answer::Load(answer, _) => {
+                self.load_calls.add(purpose);
+                self.loaded_bytes += answer.value;
             }
             Answer::Margin(margin, entries) => {
                 self.margin_calls.add(purpose);
@@ -146,6 +152,8 @@ impl fmt::Display for Summary {
         let calls = self.day_calls.total();
         writeln!(out, "serpentgleam_day: {calls} calls: {}", self.day_calls)?;
         self.write_calls_on_lists(out)?;
+        let (calls, bytes) = (self.load_calls.total(), self.loaded_bytes);
+        writeln!(out, "serpentgleam_load: {calls} calls, {bytes} bytes: {}", self.load_calls)?;
         write!(out, "{} files, 0 differences", self.files)
     }
 }

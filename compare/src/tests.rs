@@ -11,11 +11,12 @@ use reference::reader::{distance, read_account};
 use crate::changed_amounts::{exact_of_line, Exact};
 use crate::changes::{Change, Changed, CHANGES};
 use crate::codes_and_days::{asked_once, drawn, expectation};
-use crate::comparison::{compare_factors, compare_file, Difference};
+use crate::comparison::{compare_factors, compare_file, compare_load, Difference};
 use crate::days::days;
 use crate::files::{file, Family, File, LONGEST_FILE};
 use crate::implementation::{Implementation, Line, Reference};
 use crate::lending::Lending;
+use crate::loads;
 use crate::questions::{questions, Question};
 use crate::summary::Summary;
 
@@ -336,7 +337,7 @@ fn codes_and_days_drawn_are_various() {
     assert!(of_other_seed.count() < 5);
 }
 
-/// Compares the reference with the other implementation on the first files, then on the factors.
+/// Compares the reference with the other implementation on the first files and loads, then on the factors.
 fn compared(other: &dyn Implementation, count: u64) -> Result<Summary, Box<Difference>> {
     let mut lending = Lending::new();
     let mut summary = Summary::default();
@@ -344,6 +345,8 @@ fn compared(other: &dyn Implementation, count: u64) -> Result<Summary, Box<Diffe
         let file = file(SEED, number);
         compare_file(&file, &Reference, other, &mut lending, &mut summary)?;
         compare_factors(drawn(SEED, number), &Reference, other, &mut summary)?;
+        let load = loads::drawn(SEED, number);
+        compare_load(&load, &Reference, other, &mut lending, &mut summary)?;
     }
     for code_and_days in asked_once() {
         compare_factors(code_and_days, &Reference, other, &mut summary)?;
@@ -361,6 +364,8 @@ fn the_reference_does_not_differ_from_itself() {
     assert!(text.contains("\nserpentgleam_factors: 10374 calls: given: "));
     assert!(text.contains("\nserpentgleam_day: "));
     assert!(text.contains(", with blocked contracts: "));
+    assert!(text.contains("\nserpentgleam_load: 3000 calls, "));
+    assert!(text.contains("; made by a load: ") || text.contains(": made by a load: "));
 }
 
 #[test]
@@ -375,6 +380,7 @@ fn every_changed_answer_is_found() {
         let written = matches!(*difference, Difference::FileWrittenTo { .. });
         assert_eq!(written, change == Change::FileWritten, "{name}");
         let beside = matches!(*difference, Difference::WrittenBeside { .. });
-        assert_eq!(beside, change == Change::DayBeside, "{name}");
+        let writes_beside = matches!(change, Change::DayBeside | Change::LoadBeside);
+        assert_eq!(beside, writes_beside, "{name}");
     }
 }

@@ -74,6 +74,7 @@ extern "C" {
         count: u64,
         k: u64,
     ) -> Answer;
+    fn serpentgleam_load(seed: u64, p: u64, buffer: *mut u8, room: usize) -> Answer;
 }
 
 type MarginEntry = unsafe extern "C" fn(*const u8, usize, *mut Line, usize) -> Margin;
@@ -135,6 +136,15 @@ pub fn take_apart(file: &[u8], list: &mut [Line], count: u64, k: u64) -> Answer 
     let lines = if list.is_empty() { null_mut() } else { list.as_mut_ptr() };
     // SAFETY: the file and the list are as long as is said, and do not overlap.
     unsafe { serpentgleam_take_apart(start_of(file), file.len(), lines, list.len(), count, k) }
+}
+
+/// Makes the file of a seed and so many rows at the start of the buffer, and gives its number of bytes. The bytes after it, and
+/// on a refusal all of them, keep their content.
+#[inline]
+pub fn load(seed: u64, p: u64, buffer: &mut [u8]) -> Answer {
+    let start = if buffer.is_empty() { null_mut() } else { buffer.as_mut_ptr() };
+    // SAFETY: the buffer is as long as is said.
+    unsafe { serpentgleam_load(seed, p, start, buffer.len()) }
 }
 
 /// Entries of an earlier archive, by the names that bench/against gives them. They are declared as today's are, so an archive

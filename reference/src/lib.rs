@@ -21,6 +21,8 @@
 //!     the latest pairs taken apart
 //! 13. [`instalment_cases`]: calls one after the other on one list, and what is
 //!     printed for them
+//! 14. [`load`]: an account made from a seed
+//! 15. [`load_list`]: what the load program writes
 //!
 //! Then the tools: [`random`] (numbers from a seed), [`draft`] (files from
 //! fields), [`sample`] (random accounts), [`brute_force`] (checks the four
@@ -35,6 +37,8 @@ pub mod factors_list;
 pub mod instalment_cases;
 pub mod instalments;
 pub mod lines;
+pub mod load;
+pub mod load_list;
 pub mod output;
 pub mod pairing;
 pub mod paths;
