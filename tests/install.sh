@@ -49,7 +49,8 @@ factors 0 0, refusal 14, row 0
 factors 0 0, refusal 14, row 0
 14: there are no factors of the code and days asked for: code not 0 to 3, or days above 1,800'
 
-# What it prints of days, of which only one changes the file, PV from 3000 to 3050; then the sentences at the end.
+# What it prints of days, of which only one changes the file, PV from 3000 to 3050; then what follows: sentences, and loads, of
+# whose longer file three bytes are those that were there.
 days='day: refusal 16, row 0, value 0, bytes changed 0
 day: refusal 17, row 0, value 0, bytes changed 0
 day: refusal 1, row 0, value 0, bytes changed 0
@@ -57,6 +58,12 @@ day: refusal 0, row 0, value 0, bytes changed 1
 day: refusal 0, row 0, value 0, bytes changed 0'
 sentences="16: there is no series of the number asked for
 17: the day's prices: high below low, close outside them, or one of the three not 1 to 10,000,000
+load: refusal 0, row 0, value 292, bytes changed 292, total 6040300
+load: refusal 0, row 0, value 8228, bytes changed 8225, total 25470400
+load: refusal 20, row 0, value 0, bytes changed 0, total 0
+load: refusal 20, row 0, value 0, bytes changed 0, total 0
+load: refusal 20, row 0, value 0, bytes changed 0, total 0
+20: the load asked for: seed not 1 to 2,147,483,646, p not 1 to 256, or a buffer below 36 + 32 x p bytes
 3: there is no refusal of this number
 15: there is no refusal of this number"
 

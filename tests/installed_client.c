@@ -4,7 +4,8 @@
  * their content, and the answer where the list is NULL and has no entries; then the refusal of a file without bytes,
  * instalments of pairs, then pairs taken apart, the entries that each changed and the amount after it, factors that are
  * there and factors that are not, days of series row 0 that are refused and one that is done twice, how many bytes each of
- * them changed, the total after it, and what is said of the numbers 3 and 15, which no refusal has.
+ * them changed, the total after it, a load and its total, loads that are refused, how many bytes each changed, and what is
+ * said of the numbers 3 and 15, which no refusal has.
  */
 #include <serpentgleam.h>
 
@@ -142,6 +143,33 @@ static void print_all_days(size_t length)
     printf("%d: %s\n", SERPENTGLEAM_REFUSED_DAY_PRICES, serpentgleam_refusal_sentence(SERPENTGLEAM_REFUSED_DAY_PRICES));
 }
 
+/* Makes a load in so many bytes, of which each is 0xa5, and prints the answer, how many bytes are others and the total. */
+static void print_load(uint64_t seed, uint64_t p, size_t room)
+{
+    struct serpentgleam_answer load;
+    size_t i, changed = 0;
+
+    memset(file, 0xa5, sizeof file);
+    load = serpentgleam_load(seed, p, room == 0 ? NULL : file, room);
+    for (i = 0; i < sizeof file; i++)
+        changed += file[i] != 0xa5;
+    printf("load: refusal %" PRIu64 ", row %" PRIu64 ", value %" PRIu64 ", bytes changed %u, total %" PRIu64 "\n", load.refusal,
+           load.row, load.value, (unsigned)changed,
+           serpentgleam_margin(file, (size_t)load.value, lines, SERPENTGLEAM_MOST_LINES).total);
+}
+
+/* Prints loads that are made and that are refused, and the sentence of the refusal. */
+static void print_all_loads(void)
+{
+    print_load(99, 8, 292);
+    print_load(SERPENTGLEAM_MOST_SEED, SERPENTGLEAM_MOST_POSITIONS, SERPENTGLEAM_MOST_LOAD);
+    print_load(99, 8, 291);
+    print_load(99, 8, 0);
+    print_load(UINT64_MAX, UINT64_MAX, sizeof file);
+    printf("%d: %s\n", SERPENTGLEAM_REFUSED_LOAD_ASKED_FOR,
+           serpentgleam_refusal_sentence(SERPENTGLEAM_REFUSED_LOAD_ASKED_FOR));
+}
+
 int main(int count, char **words)
 {
     FILE *in = count == 2 ? fopen(words[1], "rb") : NULL;
@@ -176,6 +204,7 @@ int main(int count, char **words)
     print_all_pairs(length);
     print_all_factors();
     print_all_days(length);
+    print_all_loads();
     printf("3: %s\n", serpentgleam_refusal_sentence(3));
     printf("15: %s\n", serpentgleam_refusal_sentence(15));
     return 0;

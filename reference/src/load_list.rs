@@ -29,8 +29,8 @@ pub fn cases() -> Vec<Case> {
     all
 }
 
-/// Each wrong in one number alone. Of 2^32 + 1 the low 32 bits would be in
-/// range. With 2^59 rows, 32 × p is a multiple of 2^64.
+/// Each with a seed, a p or a buffer out of its range. Of 2^32 + 1 the low 32
+/// bits would be in range. With 2^59 rows, 32 × p is a multiple of 2^64.
 const REFUSED: [Case; 12] = [
     Case { seed: 0, p: 1, room: 68 },
     Case { seed: 2_147_483_647, p: 1, room: 68 },

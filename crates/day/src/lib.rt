@@ -8,14 +8,11 @@ use rules::Layout;
 use rules::Refusal;
 use rules::SERIES_WIDTH;
 use writing::write_u32;
-ghost use Prim.Native.Nat.{_+_, _≤_, _<_};
-ghost use lib.ListN.{length};
-ghost use lib.Seq.{sets};
+ghost use Prim.Native.Nat.{_<_};
 ghost use mathlib.Core.Path.{_≡_};
 ghost use Rattle.account.specs.Known.{Known};
 ghost use Rattle.rules.specs.Day.{dayAnswer, dayWritten, fileAfter, wrongDay};
 ghost use Rattle.rules.specs.Refusals.{fileRead};
-ghost use Rattle.rules.specs.Writing.{bytes4};
 ghost use Rattle.rules.specs.declared.FileRead.the-variants.{Accepted};
 
 pub mod flags;

@@ -7,28 +7,21 @@ use native.Mathlib.Nat.{mod-lt}
 use native.Mathlib.Omega.{arith}
 use borrow.Author.Tests.{eq-eqb, ne-eqb}
 use lib.Dec.{eqb}
-use Rattle.load.specs.Load.{barrierDrawn, drawsOf, modulus, mostSeed, nextState, positionDrawn, rebateDrawn, seriesDrawn, stateAfter, stateAfterRow}
-use Rattle.load.specs.Rows.{BarrierIs}
+use Rattle.load.specs.Load.{drawsOf, modulus, mostSeed, nextState, positionDrawn, seriesDrawn, stateAfter, stateAfterRow}
+use Rattle.load.specs.Rows.{BarrierIs, barrierBy, rebateBy}
 use Rattle.rules.proofs.Chain.{inside}
 use Rattle.rules.proofs.Tests.{neither}
 use Rattle.rules.specs.Limits.{mostPositions}
 use Rattle.rules.specs.Refusals.{outside}
-use Rattle.rules.specs.declared.PositionRow.{PositionRow}
-use Rattle.rules.specs.declared.SeriesRow.{SeriesRow}
 
 -- ---- refusal 20
 
--- One of the first two of three tests holds.
-pub first-two : (x y z : Bool) → (x || y) ≡ true → true ≡ (x || y || z)
-first-two true y z e = refl
-first-two false true z e = refl
-first-two false false z e = let n : _≡_ {A = ℕ} 0 1 = cc in absurd (omega arith)
+-- Of two tests the first holds, or does not and the second decides.
+pub first-holds : (x y : Bool) → x ≡ true → true ≡ (x || y)
+first-holds x y e = rw e
 
--- Neither does.
-pub third : (x y z : Bool) → (x || y) ≡ false → z ≡ (x || y || z)
-third true y z e = let n : _≡_ {A = ℕ} 0 1 = cc in absurd (omega arith)
-third false true z e = let n : _≡_ {A = ℕ} 0 1 = cc in absurd (omega arith)
-third false false z e = refl
+pub second-decides : (x y : Bool) → x ≡ false → y ≡ (x || y)
+second-decides x y e = rw e
 
 -- Seed and p are not outside their ranges.
 pub ranges-kept : (seed p : ℕ) → (outside 1 mostSeed seed || outside 1 mostPositions p) ≡ false
@@ -43,13 +36,13 @@ module _ (kind pv state : ℕ) (some : 1 ≤ kind) where
   above-zero : eqb kind 0 ≡ false
   above-zero = ne-eqb kind 0 (λ (e : kind ≡ 0). omega arith)
 
-  by-side : (up : Bool) → (eqb kind 1 || eqb kind 3) ≡ up → barrierDrawn kind pv state ≡ cond up (pv + 1 + state % 1_000) (1 + state % (pv - 1))
+  by-side : (up : Bool) → (eqb kind 1 || eqb kind 3) ≡ up → barrierBy kind pv state ≡ cond up (pv + 1 + state % 1_000) (1 + state % (pv - 1))
   by-side up e = rw (above-zero, e)
 
-  pub up-drawn : (eqb kind 1 || eqb kind 3) ≡ true → pv + 1 + state % 1_000 ≡ barrierDrawn kind pv state
+  pub up-drawn : (eqb kind 1 || eqb kind 3) ≡ true → pv + 1 + state % 1_000 ≡ barrierBy kind pv state
   up-drawn e = sym (by-side true e)
 
-  pub down-drawn : (eqb kind 1 || eqb kind 3) ≡ false → 1 + state % (pv - 1) ≡ barrierDrawn kind pv state
+  pub down-drawn : (eqb kind 1 || eqb kind 3) ≡ false → 1 + state % (pv - 1) ≡ barrierBy kind pv state
   down-drawn e = sym (by-side false e)
 
 pub below-pv : (pv state : ℕ) → 2 ≤ pv → state % (pv - 1) < pv - 1
@@ -62,12 +55,12 @@ no-barrier kind pv t e is =
     let none = eq-eqb kind 0 e in
     record { price-is = rw none; reb-is = rw none; state-is = rw none; is-state = is }
 
-pub with-barrier : (kind pv t t1 t2 price : ℕ) → (kind ≡ 0 → ⊥) → t1 ≡ nextState t → t2 ≡ nextState t1 → price ≡ barrierDrawn kind pv t1
+pub with-barrier : (kind pv t t1 t2 price : ℕ) → (kind ≡ 0 → ⊥) → t1 ≡ nextState t → t2 ≡ nextState t1 → price ≡ barrierBy kind pv t1
     → t2 < modulus → BarrierIs kind pv t (record { price = price; reb = t2 % 100; state = t2 })
 with-barrier kind pv t t1 t2 price some e1 e2 is-price is =
     let none = ne-eqb kind 0 some in
     record {
-      price-is = is-price ∙ ap (barrierDrawn kind pv) e1;
+      price-is = is-price ∙ ap (barrierBy kind pv) e1;
       reb-is = rw (none, e2, e1);
       state-is = rw (none, e2, e1);
       is-state = is;
@@ -98,7 +91,7 @@ module _ (t t1 t2 t3 t4 : ℕ) (e1 : t1 ≡ nextState t) (e2 : t2 ≡ nextState 
   after-six = rw (e4, e3, e2, e1)
 
   -- Price and rebate by the states after t4, in which they are drawn.
-  module _ (pv price reb state : ℕ) (is-price : price ≡ barrierDrawn (t2 % 5) pv (nextState t4)) (is-reb : reb ≡ rebateDrawn (t2 % 5) (nextState (nextState t4)))
+  module _ (pv price reb state : ℕ) (is-price : price ≡ barrierBy (t2 % 5) pv (nextState t4)) (is-reb : reb ≡ rebateBy (t2 % 5) (nextState (nextState t4)))
       (is-state : state ≡ cond (eqb (t2 % 5) 0) t4 (nextState (nextState t4))) where
     pub row-is : record { series = 0; side = t1 % 2; kind = t2 % 5; flags = 4; blocked = 0; q = 1 + t3 % 100; pe = 1 + t4 % 10_000; pb = 0; price = price; reb = reb; premium = 0 } ≡ positionDrawn pv t
     unfolding positionDrawn stateAfter

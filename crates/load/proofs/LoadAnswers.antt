@@ -2,7 +2,7 @@
 -- limits, else 20 with row 0. And the two ways through the call, for code.
 -- Assumes nothing.
 use Prim.Native.Nat.{ℕ, _+_, _*_, _≤_, _<_}
-use mathlib.Core.Bool.{Bool, true, false, _||_}
+use mathlib.Core.Bool.{Bool, true, false, cond, _||_}
 use mathlib.Core.List.{List, _++_}
 use mathlib.Core.Logic.{_⊎_, inl, inr}
 use mathlib.Core.Path.{_≡_, refl, sym, _∙_, ap}
@@ -11,7 +11,8 @@ use borrow.Author.Tests.{le-ltb, ltb-false}
 use lib.Dec.{ltb}
 use lib.ListN.{drop, length}
 use Rattle.load.proofs.DrawLaws.{ranges-kept}
-use Rattle.load.specs.Load.{LoadWithin, answerFor, bufferAfter, bufferFor, loadAnswer, loadFile, loadSize, mostSeed, wrongLoad}
+use Rattle.load.specs.Load.{LoadWithin, NoLoad, bufferAfter, loadAnswer, loadFile, loadSize, mostSeed, p-above, p-zero, room-below, seed-above, seed-zero, wrongLoad}
+use Rattle.load.specs.declared.LoadAnswer.{LoadAnswer}
 use Rattle.load.specs.declared.LoadAnswer.the-variants.{Made, NotMade}
 use Rattle.rules.proofs.Tests.{lt-or-ge, neither}
 use Rattle.rules.specs.Limits.{mostPositions}
@@ -19,13 +20,12 @@ use Rattle.rules.specs.Refusals.{number, outside}
 use Rattle.rules.specs.declared.Refusal.{Refusal}
 use Rattle.rules.specs.declared.Refusal.the-variants.{LoadAskedFor}
 
--- What is not a load: "seed or p out of its range, or a buffer below 36 + 32 × p bytes".
-pub data NoLoad (seed p room : ℕ) : Type 0 where
-  seed-zero : seed < 1 → NoLoad seed p room
-  seed-above : mostSeed < seed → NoLoad seed p room
-  p-zero : p < 1 → NoLoad seed p room
-  p-above : mostPositions < p → NoLoad seed p room
-  room-below : room < loadSize p → NoLoad seed p room
+-- Answer and buffer by the test of refusal 20.
+abbrev answerFor : Bool → ℕ → LoadAnswer
+answerFor wrong p = cond wrong (NotMade LoadAskedFor 0) (Made (loadSize p))
+
+abbrev bufferFor : Bool → ℕ → ℕ → List ℕ → List ℕ
+bufferFor wrong seed p b = cond wrong b (loadFile seed p ++ drop (loadSize p) b)
 
 module _ (seed p room : ℕ) where
   -- Seed, p and room are within their limits, or one of them is not.
@@ -41,7 +41,7 @@ module _ (seed p room : ℕ) where
       go (inr a) (inr b) (inr c) (inr d) (inr e) =
           inl (record { seed-least = a; seed-most = b; p-least = c; p-most = d; room-least = e })
 
-  pub within-passes : LoadWithin seed p room → wrongLoad seed p room ≡ false
+  within-passes : LoadWithin seed p room → wrongLoad seed p room ≡ false
   within-passes w =
       rw (
         le-ltb seed 1 (w .seed-least),

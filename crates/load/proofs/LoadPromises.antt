@@ -1,21 +1,20 @@
 -- Document 02 [10] of every seed, every p and every buffer: "Every file so made is accepted", and reads back as the rows drawn;
 -- "Bytes of the lent buffer after the file stay"; refused, "nothing is written".
 -- Assumes nothing.
-use Prim.Native.Nat.{ℕ, _≤_, _<_}
-use mathlib.Core.List.{List, _++_}
+use Prim.Native.Nat.{ℕ, _≤_}
+use mathlib.Core.List.{List}
 use mathlib.Core.Logic.{_⊎_, inl, inr}
-use mathlib.Core.Path.{_≡_, refl, sym, _∙_, ap, subst}
+use mathlib.Core.Path.{_≡_, sym, _∙_, ap, subst}
 use native.Mathlib.Omega.{arith}
 use lib.ListN.{drop, length, length-append, length-drop, take}
 use lib.Seq.{drop-at, take-at}
 use Rattle.load.proofs.DrawnLimits.{row-within, series-within}
-use Rattle.load.proofs.LoadAnswers.{NoLoad, buffer-kept, buffer-made, load-or-not, made-within, refused-for}
+use Rattle.load.proofs.LoadAnswers.{buffer-kept, buffer-made, load-or-not, made-within, refused-for}
 use Rattle.load.proofs.LoadWriting.{load-length}
-use Rattle.load.specs.Load.{AcceptedDemand, Drawn, LoadWithin, ReadsBack, StaysDemand, bufferAfter, loadFile, loadSize, rowDrawn, seriesDrawn}
-use Rattle.load.specs.declared.LoadAnswer.the-variants.{Made}
+use Rattle.load.specs.Load.{AcceptedDemand, Drawn, LoadWithin, NoLoad, ReadsBack, StaysDemand, bufferAfter, loadFile, loadSize, rowDrawn, seriesDrawn}
 use Rattle.rules.proofs.Reading.{within-accepted}
-use Rattle.rules.proofs.WrittenFile.{file-within, layout-is, position-row-is, series-row-is}
-use Rattle.rules.specs.File.{Account, accountOf, layout, positionOf, seriesOf}
+use Rattle.rules.proofs.WrittenFile.{file-within, layout-is, position-count-is, position-row-is, series-count-is, series-row-is}
+use Rattle.rules.specs.File.{accountOf, layout, positionOf, seriesOf}
 use Rattle.rules.specs.Limits.{FileWithin, mostPositions}
 use Rattle.rules.specs.Refusals.{accepted, meaning}
 use Rattle.rules.specs.declared.Layout.{Layout}
@@ -32,6 +31,8 @@ module _ (seed p : ℕ) (most : p ≤ mostPositions) where
   unfolding loadFile
   reads-back =
       record {
+        one-series = series-count-is 1 (λ i. seriesDrawn seed) p (rowDrawn seed) (omega arith) (omega arith) most;
+        p-positions = position-count-is 1 (λ i. seriesDrawn seed) p (rowDrawn seed) (omega arith) (omega arith) most;
         series-row = series-row-is 1 (λ i. seriesDrawn seed) p (rowDrawn seed) (omega arith) (omega arith) most (λ i h. series-within seed) 0 (omega arith);
         position-rows = position-row-is 1 (λ i. seriesDrawn seed) p (rowDrawn seed) (omega arith) (omega arith) most (λ i h. series-within seed) (λ r h. row-within seed r);
       }

@@ -8,7 +8,7 @@ use lib.Dec.{eqb, ltb}
 use lib.ListN.{drop, length, take}
 use Rattle.load.specs.declared.LoadAnswer.{LoadAnswer}
 use Rattle.load.specs.declared.LoadAnswer.the-variants.{Made, NotMade}
-use Rattle.rules.specs.File.{Account, layout, positionOf, positionRow, seriesOf, seriesRow}
+use Rattle.rules.specs.File.{Account, layout, positionCount, positionOf, positionRow, seriesCount, seriesOf, seriesRow}
 use Rattle.rules.specs.Limits.{mostPositions}
 use Rattle.rules.specs.Refusals.{accepted, meaning, outside}
 use Rattle.rules.specs.Writing.{bytesOfFile}
@@ -46,31 +46,35 @@ seriesDrawn seed =
       spare = 0;
     }
 
--- "the barrier, PV + 1 + draw(1000) when up or 1 + draw(PV − 1) when down", by the state of its draw. Kinds 1 and 3 are up, 2 and 4
--- down. "kind 0 draws neither": its price is 0.
-abbrev pub barrierDrawn : ℕ → ℕ → ℕ → ℕ
-barrierDrawn kind pv state =
-    cond (eqb kind 0) 0 (cond (eqb kind 1 || eqb kind 3) (pv + 1 + state % 1_000) (1 + state % (pv - 1)))
+-- "kind draw(5)", the second draw of a row; t is the state before the row.
+abbrev pub kindDrawn : ℕ → ℕ
+kindDrawn t = draw t 2 5
 
--- "then REB draw(100); kind 0 draws neither": its REB is 0.
+-- "the barrier, PV + 1 + draw(1000) when up or 1 + draw(PV − 1) when down", the fifth draw of a row of this kind. Kinds 1 and 3 are
+-- up, 2 and 4 down. "kind 0 draws neither": its price is 0. PV is 1,000 or more, so that PV - 1 is no 0.
+abbrev pub barrierDrawn : ℕ → ℕ → ℕ → ℕ
+barrierDrawn kind pv t =
+    cond (eqb kind 0) 0 (cond (eqb kind 1 || eqb kind 3) (pv + 1 + draw t 5 1_000) (1 + draw t 5 (pv - 1)))
+
+-- "then REB draw(100); kind 0 draws neither": the sixth draw, or 0.
 abbrev pub rebateDrawn : ℕ → ℕ → ℕ
-rebateDrawn kind state = cond (eqb kind 0) 0 (state % 100)
+rebateDrawn kind t = cond (eqb kind 0) 0 (draw t 6 100)
 
 -- "each: side draw(2), kind draw(5), Q 1 + draw(100), PE 1 + draw(10000), and for kinds above 0 the barrier .. then REB .. Flags 4,
--- .. no limiter, no premium, none blocked": a row of the series with this PV, t being the state before it.
+-- .. no limiter, no premium, none blocked": a row of the series with this PV.
 unfoldable pub positionDrawn : ℕ → ℕ → PositionRow
 positionDrawn pv t =
     record {
       series = 0;
       side = draw t 1 2;
-      kind = draw t 2 5;
+      kind = kindDrawn t;
       flags = 4;
       blocked = 0;
       q = 1 + draw t 3 100;
       pe = 1 + draw t 4 10_000;
       pb = 0;
-      price = barrierDrawn (draw t 2 5) pv (stateAfter t 5);
-      reb = rebateDrawn (draw t 2 5) (stateAfter t 6);
+      price = barrierDrawn (kindDrawn t) pv t;
+      reb = rebateDrawn (kindDrawn t) t;
       premium = 0;
     }
 
@@ -80,7 +84,7 @@ drawsOf kind = cond (eqb kind 0) 4 6
 
 -- The state after a row, t being the state before it.
 unfoldable pub stateAfterRow : ℕ → ℕ
-stateAfterRow t = stateAfter t (drawsOf (draw t 2 5))
+stateAfterRow t = stateAfter t (drawsOf (kindDrawn t))
 
 -- The state before row r: the series takes five draws, and each row goes on where the one before it ended.
 unfoldable pub stateBefore : ℕ → ℕ → ℕ
@@ -108,19 +112,13 @@ abbrev pub wrongLoad : ℕ → ℕ → ℕ → Bool
 wrongLoad seed p room = outside 1 mostSeed seed || outside 1 mostPositions p || ltb room (loadSize p)
 
 -- What is answered for a buffer with room for so many bytes: the bytes of the file, or 20 with row 0.
-abbrev pub answerFor : Bool → ℕ → LoadAnswer
-answerFor wrong p = cond wrong (NotMade LoadAskedFor 0) (Made (loadSize p))
-
 unfoldable pub loadAnswer : ℕ → ℕ → ℕ → LoadAnswer
-loadAnswer seed p room = answerFor (wrongLoad seed p room) p
+loadAnswer seed p room = cond (wrongLoad seed p room) (NotMade LoadAskedFor 0) (Made (loadSize p))
 
 -- The lent buffer b after the call: the file, and "Bytes of the lent buffer after the file stay"; on a refusal "nothing is
 -- written".
-abbrev pub bufferFor : Bool → ℕ → ℕ → List ℕ → List ℕ
-bufferFor wrong seed p b = cond wrong b (loadFile seed p ++ drop (loadSize p) b)
-
 unfoldable pub bufferAfter : ℕ → ℕ → List ℕ → List ℕ
-bufferAfter seed p b = bufferFor (wrongLoad seed p (length b)) seed p b
+bufferAfter seed p b = cond (wrongLoad seed p (length b)) b (loadFile seed p ++ drop (loadSize p) b)
 
 -- Seed, p and room within their limits, as plain ranges: not 20.
 pub record LoadWithin (seed p room : ℕ) : Type 0 where
@@ -130,6 +128,14 @@ pub record LoadWithin (seed p room : ℕ) : Type 0 where
   pub p-most : p ≤ mostPositions
   pub room-least : loadSize p ≤ room
 
+-- What is no load: "seed or p out of its range, or a buffer below 36 + 32 × p bytes".
+pub data NoLoad (seed p room : ℕ) : Type 0 where
+  seed-zero : seed < 1 → NoLoad seed p room
+  seed-above : mostSeed < seed → NoLoad seed p room
+  p-zero : p < 1 → NoLoad seed p room
+  p-above : mostPositions < p → NoLoad seed p room
+  room-below : room < loadSize p → NoLoad seed p room
+
 -- The account a is the one drawn: one series and p positions, each as its row says.
 pub record Drawn (seed p : ℕ) (a : Account) : Type 0 where
   pub one-series : a .series ≡ 1
@@ -137,8 +143,10 @@ pub record Drawn (seed p : ℕ) (a : Account) : Type 0 where
   pub p-positions : a .positions ≡ p
   pub positions-are : (r : ℕ) → r < p → a .positionAt r ≡ positionOf (rowDrawn seed r)
 
--- The file f has the rows drawn, number by number.
+-- The file f has one series and p positions, whose rows are those drawn, number by number.
 pub record ReadsBack (seed p : ℕ) (f : List ℕ) : Type 0 where
+  pub one-series : seriesCount f ≡ 1
+  pub p-positions : positionCount f ≡ p
   pub series-row : seriesRow f (layout f) 0 ≡ seriesDrawn seed
   pub position-rows : (r : ℕ) → r < p → positionRow f (layout f) r ≡ rowDrawn seed r
 
@@ -150,7 +158,7 @@ AcceptedDemand seed p b =
     → ReadsBack seed p (take (loadSize p) (bufferAfter seed p b))
     × ((a : Account) × (meaning (take (loadSize p) (bufferAfter seed p b)) ≡ accepted a) × Drawn seed p a)
 
--- "Bytes of the lent buffer after the file stay", and none comes or goes; refused, "nothing is written".
+-- "Bytes of the lent buffer after the file stay", and the buffer is as long as it was; refused, "nothing is written".
 pub record StaysDemand (seed p : ℕ) (b : List ℕ) : Type 0 where
   pub same-length : length (bufferAfter seed p b) ≡ length b
   pub after-stays : drop (loadSize p) (bufferAfter seed p b) ≡ drop (loadSize p) b

@@ -25,7 +25,7 @@ pub enum LoadAnswer {
     NotMade(Refusal, usize),
 }
 
-// Refusal 20's test. Where p is within its range the file's size fits.
+// Refusal 20's test. Where p is within its range the file's size fits 64 bits.
 fn wrong_load(seed: u64, p: u64, room: usize) -> bool
     ensures { λ t. ⌜ t ≡ wrongLoad seed p room ⌝ }
 {

@@ -4,8 +4,8 @@ use rules::PositionRow;
 use rules::SeriesRow;
 ghost use Prim.Native.Nat.{_≤_, _<_};
 ghost use mathlib.Core.Path.{_≡_};
-ghost use Rattle.load.specs.Load.{barrierDrawn, modulus};
-ghost use Rattle.load.specs.Rows.{BarrierIs, PositionIs, RowAsked, SeriesIs};
+ghost use Rattle.load.specs.Load.{modulus};
+ghost use Rattle.load.specs.Rows.{BarrierIs, PositionIs, RowAsked, SeriesIs, barrierBy};
 
 // A series row and the state after its draws.
 pub struct SeriesState {
@@ -51,7 +51,7 @@ pub fn series_drawn(seed: u64) -> SeriesState
 // The price of a barrier of a kind above 0, by the state of its draw.
 fn barrier_drawn(kind: u64, pv: u32, state: u64) -> u32
     requires { ⌜ (1 ≤ kind) × RowAsked pv state ⌝ }
-    ensures { λ price. ⌜ price ≡ barrierDrawn kind pv state ⌝ }
+    ensures { λ price. ⌜ price ≡ barrierBy kind pv state ⌝ }
 {
     if (kind == 1) | (kind == 3) {
         return pv + 1 + (state % 1_000) as u32;
@@ -89,11 +89,12 @@ pub fn position_drawn(pv: u32, t: u64) -> PositionState
     let t2 = next_state(t1);
     let t3 = next_state(t2);
     let t4 = next_state(t3);
-    let barrier = barrier_and_rebate(t2 % 5, pv, t4);
+    let kind = t2 % 5;
+    let barrier = barrier_and_rebate(kind, pv, t4);
     let row = PositionRow {
         series: 0,
         side: (t1 % 2) as u32,
-        kind: (t2 % 5) as u32,
+        kind: kind as u32,
         flags: 4,
         blocked: 0,
         q: (1 + t3 % 100) as u32,

@@ -87,6 +87,7 @@ unfolding seriesRowFault positionRowFault matchedFault refuse
 order =
     (refl, refl, refl, refl, refl, refl, refl, refl, refl, refl, refl, refl, refl, refl, refl, refl, refl, refl, refl, refl, refl, refl, refl)
 
+-- The bytes of rows and trailers here are written out beside `Writing`'s, so that a spare byte and the distance can be wrong.
 -- A series row: PV, fa, fb, f3, M, type, last spare byte.
 abbrev pub seriesRowBytes : ℕ → ℕ → ℕ → ℕ → ℕ → ℕ → ℕ → List ℕ
 seriesRowBytes pv fa fb f3 m option spare =

@@ -57,8 +57,6 @@ pub mod NoPositions
 -- The day: stores, the fields of a file after them, the rows after the day, and what is promised of it.
 pub mod Stores
 pub mod Fields
-pub mod WrittenRows
-pub mod WrittenFile
 pub mod DayLaws
 pub mod DayRows
 pub mod DayFile
@@ -80,3 +78,6 @@ pub mod ApartTables
 -- Contracts blocked as collateral (document 02 [9]).
 pub mod BlockedPromises
 pub mod BlockedTables
+-- A file made of rows is read back (document 02 [10]).
+pub mod WrittenRows
+pub mod WrittenFile

@@ -1,7 +1,7 @@
 -- A file made of rows within their limits is within its own, so that it is accepted, and reads back as those rows.
 -- Assumes nothing.
 use Prim.Native.Nat.{ℕ, zero, suc, _+_, _*_, _-_, _≤_, _<_}
-use mathlib.Core.List.{List, [], _∷_, _++_}
+use mathlib.Core.List.{List, _++_}
 use mathlib.Core.Logic.{_⊎_, inl, inr}
 use mathlib.Core.Path.{_≡_, refl, sym, _∙_, ap, subst}
 use native.Mathlib.Nat.{eq-or-lt-of-le, le-of-suc-le-suc, mul-suc, not-suc-le-zero}
@@ -10,7 +10,7 @@ use lib.ListN.{List·getD-append, getD, length, length-append}
 use lib.Seq.{getD-append-add}
 use Rattle.rules.proofs.Stores.{row-before}
 use Rattle.rules.proofs.WrittenRows.{Holds, position-fits, position-held, series-held, u16-held, u32-held}
-use Rattle.rules.specs.File.{distance, layout, positionCount, positionRow, positionRowFrom, positionWidth, seriesCount, seriesRow, seriesRowFrom, seriesWidth, span, trailerSpare, trailerWidth, u16At, u32At}
+use Rattle.rules.specs.File.{distance, layout, positionCount, positionRow, positionRowFrom, positionWidth, seriesCount, seriesRow, seriesRowFrom, span, trailerSpare, u16At, u32At}
 use Rattle.rules.specs.Limits.{FileWithin, PositionWithin, SeriesWithin, TrailerWithin, mostPositions, mostSeries}
 use Rattle.rules.specs.Writing.{bytesOfFile, bytesOfPosition, bytesOfRows, bytesOfSeries, bytesOfTrailer}
 use Rattle.rules.specs.declared.Layout.{Layout}
@@ -42,7 +42,7 @@ module _ (w : ℕ) (row : ℕ → List ℕ) (wide : (i : ℕ) → length (row i)
   rows-length (suc n) =
       length-append (bytesOfRows row n) (row n) ∙ omega (arith, rows-length n, wide n, mul-suc w n)
 
-  pub row-held : (n i : ℕ) → i < n → Holds (bytesOfRows row n) (w * i) (row i)
+  row-held : (n i : ℕ) → i < n → Holds (bytesOfRows row n) (w * i) (row i)
   unfolding bytesOfRows
   row-held zero i h = absurd (not-suc-le-zero h)
   row-held (suc n) i h = go (row-held n i) (eq-or-lt-of-le (le-of-suc-le-suc h))
@@ -63,7 +63,7 @@ pub position-length : (r : PositionRow) → length (bytesOfPosition r) ≡ 32
 unfolding bytesOfPosition
 position-length r = refl
 
-pub trailer-length : (s p : ℕ) → length (bytesOfTrailer s p) ≡ 12
+trailer-length : (s p : ℕ) → length (bytesOfTrailer s p) ≡ 12
 unfolding bytesOfTrailer
 trailer-length s p = refl
 
@@ -123,13 +123,13 @@ module _ (s : ℕ) (series : ℕ → SeriesRow) (p : ℕ) (positions : ℕ → P
     abbrev end : ℕ
     end = 24 * s + 32 * p
 
-    series-count-is : seriesCount file ≡ s
+    pub series-count-is : seriesCount file ≡ s
     unfolding bytesOfTrailer
     series-count-is =
         let place : length file - 12 ≡ end + 0 = omega (arith, file-length) in
         ap (u16At file) place ∙ u16-held file (bytesOfTrailer s p) end trailer-bytes 0 s (omega arith) refl refl (omega arith)
 
-    position-count-is : positionCount file ≡ p
+    pub position-count-is : positionCount file ≡ p
     unfolding bytesOfTrailer
     position-count-is =
         let place : length file - 10 ≡ end + 2 = omega (arith, file-length) in
@@ -185,7 +185,7 @@ module _ (s : ℕ) (series : ℕ → SeriesRow) (p : ℕ) (positions : ℕ → P
             (position-fits s (series (positions r .series)) (positions r) few (series-fit (positions r .series) (within .series-below)) within)
             (position-bytes r h)
 
-        -- "A file that keeps the limits .. is accepted": this one does.
+        -- So that it is accepted (`Reading.within-accepted`).
         pub file-within : FileWithin file
         file-within =
             record {

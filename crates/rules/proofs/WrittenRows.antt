@@ -1,7 +1,7 @@
--- A file that holds the bytes of a row or of a trailer from some place on is read there as that row or trailer. Every number
--- must fit its bytes, as those of rows within their limits do.
+-- A file that holds the bytes of a number or of a row from some place on is read there as that number or row. Every number must
+-- fit its bytes, as those of rows within their limits do.
 -- Assumes nothing.
-use Prim.Native.Nat.{ℕ, _+_, _*_, _/_, _%_, _≤_, _<_}
+use Prim.Native.Nat.{ℕ, _+_, _/_, _%_, _≤_, _<_}
 use mathlib.Core.List.{List}
 use mathlib.Core.Logic.{_⊎_, inl, inr}
 use mathlib.Core.Path.{_≡_, refl, _∙_}
@@ -30,14 +30,14 @@ module _ (c vs : List ℕ) (m : ℕ) (h : Holds c m vs) (k v : ℕ) where
   first-byte : k < length vs → getD c (m + k) 0 ≡ getD vs k 0
   first-byte l = h k l
 
-  pub u8-held : k < length vs → getD vs k 0 ≡ v % 256 → v < 256 → u8At c (m + k) ≡ v
+  u8-held : k < length vs → getD vs k 0 ≡ v % 256 → v < 256 → u8At c (m + k) ≡ v
   u8-held l e small = first-byte l ∙ e ∙ (omega arith)
 
   pub u16-held : k + 1 < length vs → getD vs k 0 ≡ v % 256 → getD vs (k + 1) 0 ≡ v / 256 % 256 → v < 65_536 → u16At c (m + k) ≡ v
   u16-held l e0 e1 small =
       rw (first-byte (omega arith), held-byte 1 l, e0, e1) (omega arith)
 
-  pub u24-held : k + 2 < length vs → getD vs k 0 ≡ v % 256 → getD vs (k + 1) 0 ≡ v / 256 % 256 → getD vs (k + 2) 0 ≡ v / 65_536 % 256 → v < 16_777_216 → u24At c (m + k) ≡ v
+  u24-held : k + 2 < length vs → getD vs k 0 ≡ v % 256 → getD vs (k + 1) 0 ≡ v / 256 % 256 → getD vs (k + 2) 0 ≡ v / 65_536 % 256 → v < 16_777_216 → u24At c (m + k) ≡ v
   u24-held l e0 e1 e2 small =
       let e : v / 65_536 ≡ v / 256 / 256 = omega arith in
       rw (first-byte (omega arith), held-byte 1 (omega arith), held-byte 2 l, e0, e1, e2) (omega arith)

@@ -10,8 +10,9 @@ pub mod Lines
 pub mod Output
 pub mod Paths
 pub mod Promises
--- Document 02 [5].
+-- What is written into bytes: rows by document 01, and stores, for document 02 [5] and [10].
 pub mod Writing
+-- Document 02 [5].
 pub mod Day
 -- Document 02 [6].
 pub mod Reais

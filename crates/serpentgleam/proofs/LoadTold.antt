@@ -3,8 +3,8 @@
 use Prim.Native.Nat.{ℕ}
 use mathlib.Core.Path.{_≡_, refl, sym, ap, _∙_}
 use native.Mathlib.Omega.{arith}
-use Rattle.load.proofs.LoadAnswers.{NoLoad, made, made-within, not-made}
-use Rattle.load.specs.Load.{LoadWithin, loadAnswer, loadSize}
+use Rattle.load.proofs.LoadAnswers.{made, made-within, not-made}
+use Rattle.load.specs.Load.{LoadWithin, NoLoad, loadAnswer, loadSize}
 use Rattle.load.specs.declared.LoadAnswer.{LoadAnswer}
 use Rattle.load.specs.declared.LoadAnswer.the-variants.{Made, NotMade}
 use Rattle.rules.proofs.Answers.{number-range}

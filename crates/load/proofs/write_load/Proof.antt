@@ -1,4 +1,4 @@
-use Prim.Native.Nat.{_-_, ℕ}
+use Prim.Native.Nat.{_-_}
 use Rattle.load.proofs.LoadWriting.{Walked, row-asked, size-kept, walk-begins, walk-ends, walk-goes-on}
 use Rattle.load.proofs.write_load.Statement.{statement}
 use Rattle.load.proofs.write_load.Tie as tie

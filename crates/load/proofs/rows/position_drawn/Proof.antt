@@ -18,8 +18,8 @@ next-state-requires-4 c κs = search needs
 barrier-and-rebate-requires : tie.Need-barrier-and-rebate-requires
 barrier-and-rebate-requires c κs = search needs
 
-cast-t10 : tie.Need-cast-t10
-cast-t10 c = search needs
+cast-t11 : tie.Need-cast-t11
+cast-t11 c = search needs
 
 cast-t12 : tie.Need-cast-t12
 cast-t12 c = search needs
@@ -48,7 +48,7 @@ position-drawn-spec =
     next-state-requires-3
     next-state-requires-4
     barrier-and-rebate-requires
-    cast-t10
+    cast-t11
     cast-t12
     add-t14
     cast-t15
