@@ -331,7 +331,7 @@ fn buffers_that_are_too_short() {
 #[test]
 fn the_list() {
     let all = cases();
-    assert_eq!(all.len(), 4 + 300 + 10);
+    assert_eq!(all.len(), 4 + 300 + 12);
     assert_eq!(all[4], Case { seed: 7_158_278, p: 2, room: 105 });
     assert_eq!(all[303], Case { seed: 2_147_483_400, p: 5, room: 201 });
     for (at, case) in all.iter().enumerate() {
