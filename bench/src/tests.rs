@@ -1,6 +1,6 @@
 //! Every way gives the lines and the total of the reference, and the tables its factors. The accounts at random are loads with
-//! the rows asked for. Of the single positions of each kind at least an eighth are at the minimum margin and an eighth above
-//! it. The measured day touches about half of the barriers, and the measured instalments make all pairs.
+//! the rows asked for. Of the single positions of each kind at least a quarter are at the minimum margin and a quarter above
+//! it, of the down-and-in ones an eighth. The measured day touches about half of the barriers, and the measured instalments make all pairs.
 
 use std::collections::HashSet;
 use std::mem::discriminant;
@@ -152,9 +152,11 @@ fn at_minimum(file: &[u8]) -> bool {
 fn single_positions_at_and_above_the_minimum() {
     for (name, kinds) in KINDS {
         let files = single_positions(kinds);
-        let eighth = files.len() / 8;
+        // Of loads one in four down-and-in barriers is within reach.
+        let parts = if name == "down-and-in" { 8 } else { 4 };
+        let share = files.len() / parts;
         let least = files.iter().filter(|file| at_minimum(file)).count();
-        assert!((eighth..=7 * eighth).contains(&least), "{name}: {least}");
+        assert!((share..=(parts - 1) * share).contains(&least), "{name}: {least}");
     }
 }
 
