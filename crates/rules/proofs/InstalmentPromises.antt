@@ -18,7 +18,7 @@ use Rattle.rules.proofs.Most.{within_most_after}
 use Rattle.rules.proofs.Rounds.{made_left}
 use Rattle.rules.proofs.Sums.{sum_over-append}
 use Rattle.rules.specs.File.{Account}
-use Rattle.rules.specs.Instalments.{AfterAllowances, AllowancesDemand, CoverSoFar, HalfPaired, HalfPairedDemand, PairedList, after_call, after_calls, all_pairs, amount_so_far, begun, first_pairs, list_paired, made_of, pair_answer, pairs_told, remainders}
+use Rattle.rules.specs.Instalments.{AfterAllowances, AllowancesDemand, CoverSoFar, HalfPaired, HalfPairedDemand, HalfPairedLongDemand, PairedList, after_call, after_calls, all_pairs, amount_so_far, begun, first_pairs, list_paired, made_of, pair_answer, pairs_told, remainders}
 use Rattle.rules.specs.Lines.{entries_for, left_with_blocked, line_amount, pair_lines, sum_over, total_after}
 use Rattle.rules.specs.LongExpiries.{NoExceptedPut}
 use Rattle.rules.specs.Pairs.{Made, available, book_of, pairs_after}
@@ -164,9 +164,8 @@ module _ (a : Account) (n : ℕ) where
       )
 
 -- The amount that is answered for a list with `count` pair lines, with any fb and under the proviso of document 02 [11].
-so_far_covered : (b : List ℕ) (a : Account) → meaning b ≡ accepted a → (out : List Line) (count x : ℕ) → amount_so_far b out count ≡ Amount x
-    → NoExceptedPut a → CoverSoFar a (take count out) x
-so_far_covered b a e out count x q none path each =
+pub half_paired_long : (b : List ℕ) → HalfPairedLongDemand b
+half_paired_long b a e out count x q none path each =
     let known = so_far_only b a e out count x q in
     omega (
       arith,
@@ -194,8 +193,7 @@ half_paired b a e out count x q =
           );
       amount_most = omega (arith, is, within_most_after b a e count);
       all_paired = λ all. is ∙ total_all a count (omega (arith, all));
-      covered = λ factors. so_far_covered b a e out count x q (low_factors_enough b a e factors);
-      covered_long = so_far_covered b a e out count x q;
+      covered = λ factors. half_paired_long b a e out count x q (low_factors_enough b a e factors);
       contracts = λ r there.
           ap (λ (l : List Line). sum_over (pair_quantity r) l + sum_over (left_quantity r) (remainders a count)) stand
           ∙ row_contracts a count r there (fits.most r there);

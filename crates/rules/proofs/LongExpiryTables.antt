@@ -10,7 +10,7 @@ use Rattle.rules.proofs.CheckOrder.{series_row_bytes, trailer_bytes}
 use Rattle.rules.proofs.CheckedValues.{row}
 use Rattle.rules.proofs.Demand3.{cover_long}
 use Rattle.rules.proofs.FileTables.{row_bytes}
-use Rattle.rules.proofs.InstalmentPromises.{half_paired}
+use Rattle.rules.proofs.InstalmentPromises.{half_paired_long}
 use Rattle.rules.proofs.InstalmentTables.{mark}
 use Rattle.rules.proofs.MarginTables.{knocked_in_row}
 use Rattle.rules.specs.File.{Account, account_of, layout, position_row, series_of_row, series_row, span}
@@ -114,7 +114,7 @@ two_years_answered = (refl, refl)
 -- The amount before the pair covers too.
 pub two_years_so_far : CoverSoFar two_years_account [] 116_400
 two_years_so_far =
-    (half_paired two_years two_years_account two_years_accepted twelve 0 116_400 two_years_answered.1).covered_long two_years_provided
+    half_paired_long two_years two_years_account two_years_accepted twelve 0 116_400 two_years_answered.1 two_years_provided
 
 -- Put PV 1000, fa 1.3, fb 1.1, f3 0; written PE 1250, IU 1200, Q 1, M 1. L after the knock-in is IU × fb, 1320, above PE, so
 -- that the unit margin is 0. On the path that is 1200 alone the row is knocked in and pays 50 ticks.

@@ -150,12 +150,6 @@ pub record AfterAllowances (b : List ℕ) (a : Account) (out : List Line) (n : �
 abbrev pub remainders : Account → ℕ → List Line
 remainders a n = left_lines a (left_with_blocked a n) a.positions
 
--- The cover with the amount for the total, and these pairs.
-abbrev pub CoverSoFar : Account → List Line → ℕ → Type 0
-CoverSoFar a pairs amount =
-    (path : ℕ → List ℕ) → OnePathEach a path
-    → written_pay_out a path ≤ amount * 1_000_000 + sum_over (line_brings_in a path) pairs
-
 -- What is promised of a half-paired account: of an amount that is answered for a list with `count` pair lines.
 pub record HalfPaired (a : Account) (pairs : List Line) (count amount : ℕ) : Type 0 where
   pub pairs_are : pairs ≡ first_pairs a count
@@ -167,9 +161,8 @@ pub record HalfPaired (a : Account) (pairs : List Line) (count amount : ℕ) : T
   pub all_paired : count ≡ length (all_pairs a) → amount ≡ total a
   -- "A half-paired account must be covered on every path too", where every fb is at most 1,000,000: with the amount for the
   -- total, and the pairs in the list
-  pub covered : LowFactors a → CoverSoFar a pairs amount
-  -- and with any fb where it has no put that document 02 [11] excepts
-  pub covered_long : NoExceptedPut a → CoverSoFar a pairs amount
+  pub covered : LowFactors a → (path : ℕ → List ℕ) → OnePathEach a path
+      → written_pay_out a path ≤ amount * 1_000_000 + sum_over (line_brings_in a path) pairs
   -- the contracts of each row add up to Q: those of the pair lines in the list that name it and those of its remainder
   pub contracts : (r : ℕ) → r < a.positions
       → sum_over (pair_quantity r) pairs + sum_over (left_quantity r) (remainders a count) ≡ (a.position_at r).q
@@ -188,3 +181,15 @@ abbrev pub HalfPairedDemand : List ℕ → Type 0
 HalfPairedDemand b =
     (a : Account) → meaning b ≡ accepted a → (out : List Line) (count amount : ℕ) → amount_so_far b out count ≡ Amount amount
     → HalfPaired a (take count out) count amount
+
+-- The cover with the amount for the total, and these pairs.
+abbrev pub CoverSoFar : Account → List Line → ℕ → Type 0
+CoverSoFar a pairs amount =
+    (path : ℕ → List ℕ) → OnePathEach a path
+    → written_pay_out a path ≤ amount * 1_000_000 + sum_over (line_brings_in a path) pairs
+
+-- The half-paired account is covered with any fb too, where it has no put that document 02 [11] excepts.
+abbrev pub HalfPairedLongDemand : List ℕ → Type 0
+HalfPairedLongDemand b =
+    (a : Account) → meaning b ≡ accepted a → (out : List Line) (count amount : ℕ) → amount_so_far b out count ≡ Amount amount
+    → NoExceptedPut a → CoverSoFar a (take count out) amount

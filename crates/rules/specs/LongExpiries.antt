@@ -1,5 +1,5 @@
 -- Document 02 [11], Cover for long expiries: its proviso, and the cover of every accepted file with any fb. The cover is document
--- 01's (`Promises.Cover`); that of a half-paired account, under the same proviso, is in `Instalments.HalfPaired`. "The least
+-- 01's (`Promises.Cover`); that of a half-paired account, under the same proviso, is in `Instalments.HalfPairedLongDemand`. "The least
 -- amount remains tied to fb at most 1,000,000": `Promises.LeastDemand` is as it was.
 use Rattle.std.specs.Prelude.{ℕ, ◌<◌, Bool, true, false, not, ◌&&◌, List, ◌≡◌, ltb}
 use Rattle.rules.specs.File.{Account, series_of_row}
