@@ -1,4 +1,6 @@
 // The account file: bytes to rows, or the refusal that document 01 gives.
+#![tactic(auto)]
+
 pub mod bytes;
 pub mod checks;
 pub mod faults;

@@ -1,4 +1,6 @@
 // What the day crossed: a file brought up to date with the high, low and close of one of its series, in the lent bytes.
+#![tactic(auto)]
+
 ghost use Rattle.std.specs.Prelude.{◌<◌, ◌≡◌};
 ghost use Rattle.account.specs.Known.{Known};
 ghost use Rattle.rules.specs.Day.{day_answer, day_written, file_after, wrong_day};

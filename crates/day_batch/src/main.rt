@@ -3,6 +3,8 @@
 // with number and row, then the file's bytes as they are after the day, of a file that is too long the first 65,537, and a
 // line feed. An input that is cut off, or a case without a whole day, ends the run with a line that says so; so do
 // 1,000,000,000 cases, without one.
+#![tactic(auto)]
+
 ghost use Rattle.std.specs.Prelude.{◌+◌, ◌≤◌, length, ◌≡◌};
 
 use account::bytes::u32_at;

@@ -4,7 +4,7 @@ ghost use Rattle.factors.specs.Numbers.{NumbersOf};
 use crate::Code;
 
 // F2 and F4 of a code in 10^-4, and its daily factors in 10^-8.
-#[derive(Drop)]
+#[derive(Clone, Copy)]
 pub struct CodeNumbers {
     pub f2: u64,
     pub f4: u64,

@@ -1,4 +1,6 @@
 // fa and fb from a code of the circular and a number of days: document 02, request 2.
+#![tactic(auto)]
+
 ghost use Rattle.std.specs.Prelude.{◌≤◌};
 ghost use Rattle.factors.specs.Factors.{FactorsAre, code_number};
 ghost use Rattle.roots.specs.Roots.{most_days};
@@ -14,7 +16,7 @@ pub mod formulas;
 pub mod growth;
 
 // The codes of the circular's table.
-#[derive(Drop)]
+#[derive(Clone, Copy)]
 pub enum Code {
     FCI,
     FPI,
@@ -23,7 +25,7 @@ pub enum Code {
 }
 
 // fa and fb in millionths, or the refusal with its row.
-#[derive(Drop)]
+#[derive(Clone, Copy)]
 pub enum FactorsAnswer {
     Factors(u64, u64),
     NoFactors(Refusal, usize),

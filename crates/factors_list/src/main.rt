@@ -1,5 +1,7 @@
 // Prints, a line each, the factors of every code and number of days and the refusal of a day more; then the refusals of a code
 // that is not there and of the greatest numbers.
+#![tactic(auto)]
+
 use factors::{FactorsAnswer, factors};
 use libc::STDOUT_FILENO;
 use refusals::refusal_number;

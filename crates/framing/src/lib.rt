@@ -1,18 +1,20 @@
 // Many files on standard input, one after the other: each is its length in four little-endian bytes and then its bytes.
+#![tactic(auto)]
+
 ghost use Rattle.std.specs.Prelude.{◌≤◌, length, ◌≡◌};
 ghost use Rattle.framing.specs.Frames.{frame_length};
 
 use account::bytes::u32_at;
 
 // The next file stands in the first bytes of the space; or the input is cut off within a file, or ends.
-#[derive(Drop)]
+#[derive(Clone, Copy)]
 pub enum Frame {
     File(usize),
     CutOff,
     End,
 }
 
-#[derive(Drop)]
+#[derive(Clone, Copy)]
 enum Header {
     Length(usize),
     Short,

@@ -1,5 +1,7 @@
 // Pairing in instalments (document 02, request 7) and taking pairs apart (request 8): what a call works out before its lines
 // are compared with the caller's list, and what follows from the comparison.
+#![tactic(auto)]
+
 ghost use Rattle.std.specs.Prelude.{length, ◌≡◌};
 ghost use Rattle.instalments.specs.Ready.{AmountReady, PairsReady, apart_by, end, kept_of, start};
 ghost use Rattle.lines.specs.LineNumbers.{most_numbers, most_pair_numbers};
@@ -14,7 +16,7 @@ use rules::{ApartAnswer, FileRead, Layout, Refusal};
 
 // With how many lines the list must begin, with how many it begins after the call, and the number to be answered; or the
 // refusal. Taking apart asks for no further pairs, and of the three numbers the first alone counts.
-#[derive(Drop)]
+#[derive(Clone, Copy)]
 pub enum CallLines {
     Lines(usize, usize, u64),
     NoLines(Refusal, usize),

@@ -1,4 +1,6 @@
 // The lanes: held rows in the order of their strikes, upwards and downwards, and the table of what is kept of each row.
+#![tactic(auto)]
+
 pub mod keys;
 pub mod limiters;
 pub mod links;

@@ -1,4 +1,6 @@
 // What the operations on a lent list of lines share: the one function that reads its entries and the one that writes them.
+#![tactic(auto)]
+
 ghost use Rattle.std.specs.Prelude.{◌*◌, ◌≤◌, length, ◌≡◌};
 ghost use Rattle.lent.specs.Entries.{entries_written};
 ghost use Rattle.lines.specs.LineNumbers.{lines_from, numbers_per_line};

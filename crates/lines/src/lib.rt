@@ -1,4 +1,6 @@
 // Lines as plain numbers, three to a line: a row and contracts are small, so that kind, second and third number stand in one.
+#![tactic(auto)]
+
 ghost use Rattle.std.specs.Prelude.{◌+◌, ◌*◌, ◌≤◌, length, ◌&&◌, ◌≡◌};
 ghost use Rattle.lines.specs.LineNumbers.{LineWritten, Packable, line_from, numbers_per_line};
 ghost use Rattle.rules.specs.Instalments.{same_line};

@@ -1,4 +1,6 @@
 // The whole account: its lines as plain numbers, and its total.
+#![tactic(auto)]
+
 ghost use Rattle.std.specs.Prelude.{length, ◌≡◌};
 ghost use Rattle.lines.specs.LineNumbers.{line_count, most_numbers};
 ghost use Rattle.lines_and_total.specs.Settled.{Settled};
@@ -20,7 +22,7 @@ pub mod listing;
 pub mod premium;
 
 // How many of the first pairs asked for there are, and all lines.
-#[derive(Drop)]
+#[derive(Clone, Copy)]
 pub struct Listed {
     pub first: usize,
     pub lines: Tally,

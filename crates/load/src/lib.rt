@@ -1,4 +1,6 @@
 // Accounts for the bench, the same on every machine: document 02, request 10.
+#![tactic(auto)]
+
 ghost use Rattle.std.specs.Prelude.{drop, length, ◌++◌, ◌≡◌};
 ghost use Rattle.load.specs.Load.{LoadWithin, buffer_after, load_answer, load_file, load_size, wrong_load};
 
@@ -13,7 +15,7 @@ pub mod rows;
 pub const MOST_SEED: u64 = 2_147_483_646;
 
 // A load made, with the bytes of its file, or the refusal with its row.
-#[derive(Drop)]
+#[derive(Clone, Copy)]
 pub enum LoadAnswer {
     Made(u64),
     NotMade(Refusal, usize),

@@ -7,21 +7,21 @@ use crate::draws::next_state;
 use rules::{PositionRow, SeriesRow};
 
 // A series row and the state after its draws.
-#[derive(Drop)]
+#[derive(Clone, Copy)]
 pub struct SeriesState {
     pub row: SeriesRow,
     pub state: u64,
 }
 
 // A position row and the state after its draws.
-#[derive(Drop)]
+#[derive(Clone, Copy)]
 pub struct PositionState {
     pub row: PositionRow,
     pub state: u64,
 }
 
 // The price of a barrier and the rebate, 0 and 0 without one, and the state after their draws.
-#[derive(Drop)]
+#[derive(Clone, Copy)]
 pub struct BarrierState {
     pub price: u32,
     pub reb: u32,

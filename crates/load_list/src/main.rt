@@ -1,6 +1,8 @@
 // Writes many loads, each as a line with seed, p, the buffer's room and what is answered, then the buffer's bytes after the call
 // and a line feed: the ends of both ranges, seeds over the whole range with five bytes after the file, and refused ones. Each
 // buffer holds 165 in every byte before the call.
+#![tactic(auto)]
+
 ghost use Rattle.std.specs.Prelude.{◌≤◌};
 
 use libc::STDOUT_FILENO;

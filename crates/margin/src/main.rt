@@ -1,5 +1,7 @@
 // Reads one account file on standard input and writes its margin. The space is one byte more than a file may have, so
 // that a longer one is refused and not cut short. An answer that cannot be written is told of on standard error.
+#![tactic(auto)]
+
 use libc::STDERR_FILENO;
 use rules::MOST_BYTES;
 

@@ -2,6 +2,8 @@
 // writes each one's margin and an empty line. A file that is cut off ends the run, and so do 1,000,000,000 files and an
 // answer that cannot be written, which is told of on standard error: no later answer may stand in its place. The space is
 // one byte more than a file may have.
+#![tactic(auto)]
+
 ghost use Rattle.std.specs.Prelude.{length, ◌≡◌};
 
 use framing::{Frame, next_file};

@@ -1,5 +1,7 @@
 // Numbers: the larger and the smaller of two, a difference that stops at 0, a product, and an amount with its one
 // rounding up. No function here has a branch.
+#![tactic(auto)]
+
 ghost use Rattle.std.specs.Prelude.{◌*◌, ◌-◌, ◌≤◌, max, min, cond, ◌≡◌};
 ghost use Rattle.rules.specs.OnePosition.{amount_of};
 ghost use Rattle.rules.specs.Quantities.{fine};

@@ -1,5 +1,7 @@
 // The pairing over an accepted file: the definition's repeated choice, with the held rows in the order of their strikes
 // so that looking again costs one step, and the next pair from a tree of minima over the rows' ranks.
+#![tactic(auto)]
+
 pub mod cursors;
 pub mod make;
 pub mod pairs;
@@ -9,7 +11,7 @@ pub mod rows;
 use rules::{MOST_POSITIONS, Series, Terms};
 
 // A written row as a search reads it once: its terms after flag 1, its series and its unit margin.
-#[derive(Drop)]
+#[derive(Clone, Copy)]
 pub struct Written {
     pub row: usize,
     pub terms: Terms,
@@ -19,7 +21,7 @@ pub struct Written {
 
 // What is kept of a written row: the rank of its nearest pair (strike difference, written row and held row in one
 // number), the unit of that pair's spread, and the row's places in the up and the down lane.
-#[derive(Drop)]
+#[derive(Clone, Copy)]
 pub struct Standing {
     pub rank: u64,
     pub spread: u64,
@@ -39,14 +41,14 @@ pub const PLACES_SIZE: usize = 3 * MOST_POSITIONS;
 pub const TREE_SIZE: usize = 2 * MOST_POSITIONS;
 
 // How many lines there are, and the sum of their amounts.
-#[derive(Drop)]
+#[derive(Clone, Copy)]
 pub struct Tally {
     pub count: usize,
     pub total: u64,
 }
 
 // The pairs after a call: how many of the first `count` there are, and all that are then made.
-#[derive(Drop)]
+#[derive(Clone, Copy)]
 pub struct Instalment {
     pub first: usize,
     pub pairs: Tally,

@@ -1,5 +1,7 @@
 // Reads many account files on standard input, each as its length in four little-endian bytes and then its bytes, and
 // writes the amount of each row of each file, in row order, up to the refusal that the row after the last one gets.
+#![tactic(auto)]
+
 ghost use Rattle.std.specs.Prelude.{length, ◌≡◌};
 
 use framing::{Frame, next_file};

@@ -1,4 +1,6 @@
 // The numbers of the refusals: those of a file, those given after it, and those of calls that take no file.
+#![tactic(auto)]
+
 ghost use Rattle.std.specs.Prelude.{◌≡◌};
 ghost use Rattle.rules.specs.Refusals.{number};
 

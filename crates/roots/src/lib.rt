@@ -1,4 +1,6 @@
 // The square roots of the days, out of a table.
+#![tactic(auto)]
+
 ghost use Rattle.std.specs.Prelude.{◌≤◌};
 ghost use Rattle.roots.specs.Roots.{Root, most_days};
 

@@ -1,4 +1,6 @@
 // Prints crates/roots/src/table.rt: each root by counting up from the one before.
+#![tactic(auto)]
+
 ghost use Rattle.std.specs.Prelude.{◌+◌, ◌<◌};
 ghost use Rattle.roots.specs.Roots.{Root, most_days};
 

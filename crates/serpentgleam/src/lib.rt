@@ -1,5 +1,7 @@
 // The operations offered outside, as a C program calls them. `rt staticlib serpentgleam` writes the archive that a client
 // links; the header is include/serpentgleam.h.
+#![tactic(auto)]
+
 ghost use Rattle.std.specs.Prelude.{length, ◌≡◌};
 ghost use Rattle.load.specs.Load.{buffer_after, load_answer};
 ghost use Rattle.rules.specs.Day.{day_answer, file_after};
@@ -30,7 +32,7 @@ use rules::{AmountAnswer, ApartAnswer, Day, DayAnswer, Line, MarginAnswer, Refus
 // A file's margin as numbers, the header's `serpentgleam_result`: 0, 0, the line count and the total in centavos; or the
 // refusal's number, its row, 0 and 0.
 #[repr(C)]
-#[derive(Drop)]
+#[derive(Clone, Copy)]
 pub struct Margin {
     pub refusal: u64,
     pub row: u64,
@@ -61,7 +63,7 @@ fn numbers_of(answer: MarginAnswer) -> Margin
 // A number asked of a file, how many pairs a call made or left, a day applied to it or the bytes of a load, the header's
 // `serpentgleam_answer`: 0, 0 and the number, 0 for a day; or the refusal's number, its row and 0.
 #[repr(C)]
-#[derive(Drop)]
+#[derive(Clone, Copy)]
 pub struct Answer {
     pub refusal: u64,
     pub row: u64,
@@ -168,7 +170,7 @@ fn load_numbers(answer: LoadAnswer) -> Answer
 // Factors as numbers, the header's `struct serpentgleam_factors`: 0, 0, fa and fb in millionths; or the refusal's number, its
 // row, 0 and 0.
 #[repr(C)]
-#[derive(Drop)]
+#[derive(Clone, Copy)]
 pub struct FactorNumbers {
     pub refusal: u64,
     pub row: u64,

@@ -1,4 +1,6 @@
 // A file's margin in words: `pair` and `left` lines, `premium` and `total`, or `refused` with number and row.
+#![tactic(auto)]
+
 ghost use Rattle.std.specs.Prelude.{length, ◌≡◌};
 ghost use Rattle.rules.specs.Output.{margin_text};
 
@@ -9,7 +11,7 @@ pub mod text;
 pub mod words;
 
 // How many bytes of text a margin has, and whether all of them were written.
-#[derive(Drop)]
+#[derive(Clone, Copy)]
 pub struct Printed {
     pub size: usize,
     pub whole: bool,

@@ -1,5 +1,7 @@
 // A tournament tree of minima over p leaves: node i, from 1 to p - 1, is the smaller of nodes 2i and 2i + 1; leaf w is node
 // p + w; node 1 is the least of all leaves.
+#![tactic(auto)]
+
 ghost use Rattle.std.specs.Prelude.{◌+◌, ◌*◌, ◌<◌, min, length, true, ◌≡◌};
 ghost use Rattle.numbers.specs.Lists.{nth};
 ghost use Rattle.tree.specs.Tree.{LeafPut, LeafSet, Leafed, LeavesSet, SameLeaves, Tree, sibling};

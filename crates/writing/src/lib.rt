@@ -1,4 +1,6 @@
 // Numbers, rows and a trailer stored into lent bytes, as document 01 lays them out.
+#![tactic(auto)]
+
 ghost use Rattle.std.specs.Prelude.{◌+◌, ◌≤◌, length, [], ◌∷◌, ◌≡◌};
 ghost use Rattle.std.proofs.lemmas.List.Edits.{sets};
 ghost use Rattle.rules.specs.File.{position_width, series_width, trailer_width};
