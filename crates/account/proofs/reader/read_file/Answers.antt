@@ -1,0 +1,22 @@
+use Rattle.rules.proofs.TrailerLimits.{placed, trailer_within}
+use Rattle.rules.specs.File.{layout}
+use Rattle.rules.specs.Limits.{Placed}
+use Rattle.rules.specs.Refusals.{file_read, or_else, series_rows}
+use Rattle.rules.specs.declared.Fault.{Fault}
+use borrow.Author.Rules.{rules}
+use mathlib.Core.Path.{ap, subst, sym, ◌∙◌}
+use Rattle.account.proofs.reader.read_file.Goals as goal
+
+pub layout_of-requires : goal.layout_of-requires
+layout_of-requires c = trailer_within c.args.file.now (sym c.trailer_fault.ensures ∙ c.in-Clean.is)
+
+pub series_rows-requires : goal.series_rows-requires
+series_rows-requires c = let b = c.args.file.now in subst (Placed b) (sym c.layout_of.ensures) (placed b (trailer_within b (sym c.trailer_fault.ensures ∙ c.in-Clean.is)))
+
+pub returns-in-Clean : goal.returns-in-Clean
+unfolding file_read
+returns-in-Clean c = let b = c.args.file.now in c.series_rows.ensures ∙ ap (series_rows b) c.layout_of.ensures ∙ ap (λ (f : Fault). or_else f 0 (series_rows b (layout b))) (sym c.in-Clean.is ∙ c.trailer_fault.ensures)
+
+pub returns-in-Found : goal.returns-in-Found
+unfolding file_read
+returns-in-Found c = let b = c.args.file.now in ap (λ (f : Fault). or_else f 0 (series_rows b (layout b))) (sym c.in-Found.is ∙ c.trailer_fault.ensures)
