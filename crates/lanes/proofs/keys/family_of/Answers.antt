@@ -1,0 +1,8 @@
+use Rattle.lanes.proofs.FamilyLaws.{family_most}
+use Rattle.lanes.proofs.MarkLaws.{family_is}
+use borrow.Author.Rules.{rules}
+use native.Mathlib.Omega.{arith}
+use Rattle.lanes.proofs.keys.family_of.Goals as goal
+
+pub returns : goal.returns
+returns c = let e = family_is c.args.p _ _ c.normalised-n.ensures c.barrier_family.ensures in (e, omega (arith, e, family_most c.args.p))
