@@ -4,7 +4,6 @@
 ghost use Rattle.std.specs.Prelude.{◌+◌, ◌<◌};
 ghost use Rattle.roots.specs.Roots.{Root, most_days};
 
-use libc::STDOUT_FILENO;
 use roots::MOST_DAYS;
 
 // S(n + 1), counted up from S(n).
@@ -19,24 +18,23 @@ fn next_root(n: u64, root: u64) -> u64
     s
 }
 
-fn print_entry(s: u64) {
-    io::write_all(STDOUT_FILENO, b"    ");
-    io::print_decimal(STDOUT_FILENO, s);
-    io::write_all(STDOUT_FILENO, b",\n");
+fn print_entry(rt: &impl Print, s: u64) {
+    let _ = rt.write_all(b"    ");
+    let _ = rt.print(s);
+    let _ = rt.write_all(b",\n");
 }
 
-fn main() {
-    io::write_all(
-        STDOUT_FILENO,
+fn main(rt: HostRuntime) {
+    let _ = rt.write_all(
         b"// Entry n is S(n), the least s with s * s * 360 at least n * 10^12. Printed by the program roots_table.\npub const ROOTS: [u32; 1801] = [\n",
     );
     let mut s: u64 = 0;
     let mut n: u64 = 0;
-    print_entry(s);
+    print_entry(&rt, s);
     while n < MOST_DAYS {
         s = next_root(n, s);
-        print_entry(s);
+        print_entry(&rt, s);
         n += 1;
     }
-    io::write_all(STDOUT_FILENO, b"];\n");
+    let _ = rt.write_all(b"];\n");
 }
