@@ -7,7 +7,8 @@ loop-i-init c = (alike_none c.args.numbers.now c.args.lines.now, omega arith)
 
 pub loop-i-preserved : goal.loop-i-preserved
 loop-i-preserved c =
-    let below : c.loop-i.i < length c.args.lines.now = omega arith in
-    (c.same_too-same.ensures
-    ∙ rw c.loop-i.invariant.0 (alike_more c.args.numbers.now c.args.lines.now c.loop-i.i _ below),
-    omega arith)
+    let below : c.loop-i.i < length c.args.lines.now = omega arith in (
+      c.same_too-same.ensures
+          ∙ rw c.loop-i.invariant.0 (alike_more c.args.numbers.now c.args.lines.now c.loop-i.i _ below),
+      omega arith,
+    )
