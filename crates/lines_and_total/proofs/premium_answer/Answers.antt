@@ -1,7 +1,6 @@
 use Rattle.account.proofs.KnownRows.{known}
 use Rattle.lines_and_total.proofs.SettleLaws.{premium_answered}
 use Rattle.rules.specs.declared.AmountAnswer.TheVariants.{Amount}
-use borrow.Author.Rules.{rules}
 use mathlib.Core.Path.{◌∙◌, ap, sym}
 use Rattle.lines_and_total.proofs.premium_answer.Goals as goal
 

@@ -1,6 +1,4 @@
 use Rattle.account.proofs.KnownRows.{known}
-use Rattle.lines_and_total.proofs.SettleLaws.{premiums_read}
-use borrow.Author.Rules.{rules}
 use mathlib.Core.Path.{sym, ◌∙◌}
 use Rattle.lines_and_total.proofs.premium_total.Goals as goal
 

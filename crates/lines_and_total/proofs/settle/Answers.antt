@@ -1,5 +1,4 @@
 use Rattle.lines_and_total.proofs.SettleLaws.{settled_refused}
-use borrow.Author.Rules.{rules}
 use mathlib.Core.Path.{sym, ◌∙◌}
 use Rattle.lines_and_total.proofs.settle.Goals as goal
 

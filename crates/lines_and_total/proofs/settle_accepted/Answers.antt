@@ -1,6 +1,5 @@
 use Rattle.account.proofs.KnownRows.{known}
 use Rattle.lines_and_total.proofs.SettleLaws.{settled_short, settled_total}
-use borrow.Author.Rules.{rules}
 use native.Mathlib.Omega.{arith}
 use Rattle.lines_and_total.proofs.settle_accepted.Goals as goal
 

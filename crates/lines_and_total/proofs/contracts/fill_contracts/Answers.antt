@@ -1,11 +1,4 @@
-use Prim.Native.Nat.{◌-◌, ◌<◌, ◌≤◌}
-use Rattle.lines_and_total.proofs.RowLaws.{contracts_more, read_blocked}
-use Rattle.lines_and_total.specs.Listing.{ContractsTo}
-use Rattle.rules.specs.File.{account_of}
-use borrow.Author.Rules.{rules}
-use lib.ListN.{length, length-set}
-use mathlib.Core.Path.{◌≡◌, refl}
-use native.Mathlib.Omega.{arith}
+use Rattle.lines_and_total.proofs.RowLaws.{read_blocked}
 use Rattle.lines_and_total.proofs.contracts.fill_contracts.Goals as goal
 
 pub overflow_sub-left : goal.overflow_sub-left

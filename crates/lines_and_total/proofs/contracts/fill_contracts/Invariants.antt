@@ -1,11 +1,8 @@
-use Prim.Native.Nat.{◌-◌, ◌<◌, ◌≤◌}
-use Rattle.lines_and_total.proofs.RowLaws.{contracts_more, read_blocked}
+use Prim.Native.Nat.{◌-◌, ◌≤◌}
 use Rattle.lines_and_total.specs.Listing.{ContractsTo}
 use Rattle.rules.specs.File.{account_of}
-use borrow.Author.Rules.{rules}
-use lib.ListN.{length, length-set}
-use mathlib.Core.Path.{◌≡◌, refl}
-use native.Mathlib.Omega.{arith}
+use lib.ListN.{length}
+use mathlib.Core.Path.{◌≡◌}
 use Rattle.lines_and_total.proofs.contracts.fill_contracts.Given as goal
 
 abbrev pub invariant-loop-row : goal.invariant-loop-row

@@ -1,6 +1,5 @@
 use Rattle.account.proofs.KnownRows.{read_series_below}
-use Rattle.lines_and_total.proofs.RowLaws.{left_asks, left_is}
-use mathlib.Core.Path.{◌∙◌}
+use Rattle.lines_and_total.proofs.RowLaws.{left_asks}
 use Rattle.lines_and_total.proofs.left.left_amount.Goals as goal
 
 pub series_of_position-s-requires : goal.series_of_position-s-requires

@@ -2,9 +2,6 @@ use Rattle.lines_and_total.proofs.ListingLaws.{row_none, row_one}
 use Rattle.lines_and_total.specs.Listing.{shown_left}
 use Rattle.numbers.specs.Lists.{nth}
 use Rattle.rules.specs.File.{account_of}
-use borrow.Author.Rules.{rules}
-use lib.Dec.{lit≤}
-use native.Mathlib.Omega.{arith}
 use Rattle.lines_and_total.proofs.left.left_row.Goals as goal
 
 pub returns-then-q-eq0 : goal.returns-then-q-eq0

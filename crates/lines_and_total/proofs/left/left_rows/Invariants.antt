@@ -1,10 +1,8 @@
 use Prim.Native.Nat.{◌-◌, ◌≤◌}
-use Rattle.lines_and_total.proofs.ListingLaws.{row_asks, rows_end, rows_more, rows_none}
 use Rattle.lines_and_total.specs.Listing.{Added, shown_left}
 use Rattle.numbers.specs.Lists.{nth}
 use Rattle.rules.specs.File.{account_of}
 use Rattle.rules.specs.Lines.{left_lines}
-use native.Mathlib.Omega.{arith}
 use Rattle.lines_and_total.proofs.left.left_rows.Given as goal
 
 abbrev pub invariant-loop-row : goal.invariant-loop-row

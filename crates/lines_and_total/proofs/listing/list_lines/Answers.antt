@@ -1,5 +1,4 @@
 use Rattle.lines_and_total.proofs.SettleLaws.{account_listed, pairing_asks, rows_ask}
-use borrow.Author.Rules.{rules}
 use mathlib.Core.Path.{◌∙◌}
 use native.Mathlib.Omega.{arith}
 use Rattle.lines_and_total.proofs.listing.list_lines.Goals as goal

@@ -1,6 +1,4 @@
-use Rattle.lines_and_total.proofs.SettleLaws.{pairing_asks, pairs_listed}
-use borrow.Author.Rules.{rules}
-use mathlib.Core.Path.{◌∙◌}
+use Rattle.lines_and_total.proofs.SettleLaws.{pairing_asks}
 use native.Mathlib.Omega.{arith}
 use Rattle.lines_and_total.proofs.listing.list_pairs.Goals as goal
 

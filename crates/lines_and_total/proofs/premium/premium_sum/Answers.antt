@@ -1,4 +1,4 @@
-use Prim.Native.Nat.{◌+◌, ◌*◌, ◌-◌, ◌≤◌}
+use Prim.Native.Nat.{◌+◌}
 use Rattle.rules.proofs.Sums.{sum_to_more}
 use Rattle.rules.specs.File.{account_of}
 use Rattle.rules.specs.Lines.{premium_at, premiums, sum_to}

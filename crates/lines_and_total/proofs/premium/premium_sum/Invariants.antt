@@ -1,9 +1,7 @@
-use Prim.Native.Nat.{◌+◌, ◌*◌, ◌-◌, ◌≤◌}
-use Rattle.rules.proofs.Sums.{sum_to_more}
+use Prim.Native.Nat.{◌*◌, ◌-◌, ◌≤◌}
 use Rattle.rules.specs.File.{account_of}
-use Rattle.rules.specs.Lines.{premium_at, premiums, sum_to}
-use mathlib.Core.Path.{◌≡◌, refl, sym, ap, ap₂, ◌∙◌}
-use native.Mathlib.Omega.{arith}
+use Rattle.rules.specs.Lines.{premium_at, sum_to}
+use mathlib.Core.Path.{◌≡◌}
 use Rattle.lines_and_total.proofs.premium.premium_sum.Given as goal
 
 abbrev pub invariant-loop-row : goal.invariant-loop-row

@@ -1,9 +1,5 @@
 use Rattle.account.proofs.KnownRows.{read_series_below}
-use Rattle.lines_and_total.proofs.RowLaws.{no_premium, premium_is, read_fits}
-use Rattle.rules.specs.File.{account_of}
-use borrow.Author.Rules.{rules}
-use mathlib.Core.Path.{◌∙◌, refl}
-use native.Mathlib.Omega.{arith}
+use Rattle.lines_and_total.proofs.RowLaws.{read_fits}
 use Rattle.lines_and_total.proofs.premium.row_premium.Goals as goal
 
 pub series_of_position-s-requires : goal.series_of_position-s-requires
