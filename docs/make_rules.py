@@ -3,8 +3,8 @@
 
 Every example is margined by the proved program target/bin/margin and worked out by hand arithmetic in docs/rules/, from
 documents 01 and 02 and the circular alone, and so are the factors that target/bin/factors_list prints, the files that
-target/bin/day_batch writes after a day (`rt check`), and the pairs and amounts that the library's shared object gives
-in instalments, pairs taken apart and lists of lines among them, and its accounts of a load (`make`, or the one that
+target/bin/day_batch writes after a day (library/programs.sh), and the pairs and amounts that the library's shared object
+gives in instalments, pairs taken apart and lists of lines among them, and its accounts of a load (`make`, or the one that
 SERPENTGLEAM_LIBRARY_SO names). Where the two differ nothing is written.
 
 usage: python3 docs/make_rules.py             writes the page and the pictures

@@ -196,10 +196,10 @@ struct serpentgleam_result {
  * 9,999,999,900,000,000, and the largest total is 2,559,999,974,400,000,000, which a signed number of 64 bits holds.
  *
  * A pair can raise the total, by at most 100 centavos, since its line and that of the contracts left are each rounded by
- * itself. A further row can change which pairs are made, and the total by more. Promised is the cover, of every account that
- * has no written put with an up-and-in barrier not yet knocked in within a series whose fb is above 1,000,000: the total and
- * what the held rows pay for their contracts in pairs are on every path at least what the written rows pay. No blocked
- * contract is in a pair, so none counts in the cover.
+ * itself. A further row can change which pairs are made, and the total by more. Promised is the cover: where every fb is at
+ * most 1,000,000, the total and what the held rows pay for their contracts in pairs are on every path at least what the
+ * written rows pay. No blocked contract is in a pair, so none counts in the cover. With any fb the same is promised of every
+ * account that has no written put with an up-and-in barrier not yet knocked in within a series whose fb is above 1,000,000.
  */
 struct serpentgleam_result serpentgleam_margin(const uint8_t *file, size_t length, struct serpentgleam_line *lines, size_t room);
 
@@ -299,9 +299,10 @@ struct serpentgleam_answer serpentgleam_pair(const uint8_t *file, size_t length,
  * more. It is not written to.
  *
  * After all pairs it is the total of serpentgleam_margin, and it is never larger than the largest total named there. It need
- * not fall with each pair: a pair can raise it, by at most 100 centavos. Promised is the cover, whatever the count, of the
- * accounts named at serpentgleam_margin: the amount so far and what the held rows pay for their contracts in the pairs so far
- * are on every path at least what the written rows pay. No blocked contract counts in it.
+ * not fall with each pair: a pair can raise it, by at most 100 centavos. Promised is the cover, whatever the count: where
+ * every fb is at most 1,000,000, the amount so far and what the held rows pay for their contracts in the pairs so far are on
+ * every path at least what the written rows pay. No blocked contract counts in it. With any fb the same is promised of the
+ * accounts named at serpentgleam_margin.
  */
 struct serpentgleam_answer serpentgleam_amount_so_far(const uint8_t *file, size_t length, const struct serpentgleam_line *lines,
                                                       size_t room, uint64_t count);

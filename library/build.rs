@@ -1,4 +1,4 @@
-//! Finds the library's archive: the one that `rt staticlib serpentgleam` writes, or the one named by the environment
+//! Finds the library's archive: the one that library/prove.sh writes, or the one named by the environment
 //! variable SERPENTGLEAM_LIBRARY. A package that depends on this one hands it to the linker for its program alone, so
 //! that tests are built without it.
 

@@ -2,8 +2,8 @@
 """How many accounts a second the module, margin_batch and the command take: python3 python/measure.py
 
 Each is run several times and the best is kept. The accounts are small ones: the document's example of three rows, and
-those of the vectors that have at most 16 position rows, accepted or refused. Needs target/bin/margin_batch (`rt check`)
-and the shared object (library/shared_object.sh). Prints the table of docs/PERFORMANCE.md.
+those of the vectors that have at most 16 position rows, accepted or refused. Needs target/bin/margin_batch
+(library/programs.sh) and the shared object (library/shared_object.sh). Prints the table of docs/PERFORMANCE.md.
 """
 import os
 import subprocess

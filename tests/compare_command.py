@@ -3,8 +3,8 @@
 
 The files are the vectors, accepted ones with other quantities, numbers blocked, strikes and premiums and with some
 knock-outs marked as already knocked out, and damaged ones. What the command prints as text, as JSON and as CSV is
-parsed back, and each answer is compared with the program's. Needs target/bin/margin_batch (`rt check`) and the shared
-object (library/shared_object.sh). Prints how many it compared, and every difference; exit status 1 where there is one.
+parsed back, and each answer is compared with the program's. Needs target/bin/margin_batch (library/programs.sh) and the
+shared object (library/shared_object.sh). Prints how many it compared, and every difference; exit status 1 where there is one.
 """
 import csv
 import io

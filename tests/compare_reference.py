@@ -2,7 +2,7 @@
 """Compares the proved programs with the reference implementation on the reference's vectors.
 
 For each file: the reading (accepted, or refusal and row), and the amounts of up to four rows and of one that is not
-there. Needs cargo, and target/bin/position_amounts (`rt check`). Prints how many of each it compared, and every
+there. Needs cargo, and target/bin/position_amounts (library/programs.sh). Prints how many of each it compared, and every
 difference; exit status 1 where there is one.
 """
 import random

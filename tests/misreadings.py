@@ -12,15 +12,12 @@ the calls in tests/instalments/cases; a case notices where an answer or a list a
 tests/instalments/answers.
 With a misreading of the factors it prints the list of all factors; a line notices where it is not that of
 crates/factors_list/stdout. With a misreading of the load it writes the list of loads; a case notices where its answer or
-the buffer after it is not that of crates/load_list/stdout. A misreading of the proviso of request 11 changes no answer, but
-for which accounts the brute force tries paths; a test of the reference on long expiries notices where it fails.
+the buffer after it is not that of crates/load_list/stdout.
 
-Needs cargo. Prints seven tables in markdown, each with a summary. Exit status 1 where a misreading is noticed by no
-account, by no file, by no case, by no line, or by no test.
+Needs cargo. Prints six tables in markdown, each with a summary. Exit status 1 where a misreading is noticed by no
+account, by no file, by no case, or by no line.
 """
 import os
-import re
-import shutil
 import subprocess
 import sys
 import tempfile
@@ -40,7 +37,6 @@ import misread_no_positions
 import misread_order
 import misread_pairs
 import misread_positions
-import misread_proviso
 import misread_reais
 import misread_spreads
 from top import path
@@ -56,8 +52,6 @@ TABLES = [module.TABLE for module in (
     misread_positions, misread_spreads, misread_limiters, misread_pairs, misread_file, misread_no_positions,
     misread_knocked_out, misread_reais, misread_order, misread_blocked)]
 DAY_BYTES = 32
-TESTS = ['long_expiries', 'long_expiry_paths']
-RESULT = re.compile(r'^test result: .* (\d+) failed', re.MULTILINE)
 
 
 def by_accounts():
@@ -168,52 +162,26 @@ def count_that_notice(noticing, texts, changes):
     return sum(one != other for one, other in zip(expected, found, strict=True))
 
 
-def count_of_tests(changes):
-    """How many tests on long expiries fail in a copy of the whole reference."""
-    with tempfile.TemporaryDirectory() as folder:
-        copy = os.path.join(folder, 'reference')
-        shutil.copytree(path('reference'), copy)
-        names = {'src/' + file for file, _, _ in changes}
-        texts = {}
-        for name in names:
-            with open(os.path.join(copy, name)) as file:
-                texts[name] = file.read()
-        write(changed(texts, changes), copy)
-        chosen = [word for test in TESTS for word in ('--test', test)]
-        run = subprocess.run(['cargo', 'test', '--release', '--quiet', '--no-fail-fast', *chosen,
-                              '--target-dir', os.path.join(folder, 'target')], cwd=copy, capture_output=True, text=True)
-    failed = RESULT.findall(run.stdout)
-    if len(failed) != len(TESTS):
-        raise SystemExit(run.stderr)
-    return sum(map(int, failed))
-
-
-def print_table(what, tables, count):
+def print_table(noticing):
     """Prints the misreadings and how many notice each; says whether each is noticed."""
-    counts = []
-    if count([]) != 0:
-        raise SystemExit(f'of the reference itself a {what} is not as expected')
+    what, texts, counts = noticing.what, sources(noticing.program), []
+    if count_that_notice(noticing, texts, []) != 0:
+        raise SystemExit(f'{noticing.program} of the reference itself does not give what is expected')
     print(f'| Name | What is misread | {what.capitalize()}s that notice |\n|---|---|---|')
-    for name, misread, changes in [misreading for table in tables for misreading in table]:
-        counts.append(count(changes))
+    for name, misread, changes in [misreading for table in noticing.tables for misreading in table]:
+        counts.append(count_that_notice(noticing, texts, changes))
         print(f'| {name} | {misread} | {counts[-1]} |', flush=True)
     print(f'\n{len(counts)} misreadings, {counts.count(0)} noticed by no {what}, the fewest noticed by {min(counts)}')
     return 0 not in counts
 
 
-def noticed_by(noticing):
-    """The table of what a program of the reference prints."""
-    texts = sources(noticing.program)
-    noticed = print_table(noticing.what, noticing.tables, lambda changes: count_that_notice(noticing, texts, changes))
-    print()
-    return noticed
-
-
 def main():
-    noticed = [noticed_by(noticing) for noticing in (
-        by_accounts(), by_files_of_amounts(), by_cases_of_days(), by_cases_of_instalments(), by_lines_of_factors(),
-        by_cases_of_loads())]
-    noticed.append(print_table('test', [misread_proviso.TABLE], count_of_tests))
+    noticed = []
+    for noticing in (by_accounts(), by_files_of_amounts(), by_cases_of_days(), by_cases_of_instalments(),
+                     by_lines_of_factors(), by_cases_of_loads()):
+        if noticed:
+            print()
+        noticed.append(print_table(noticing))
     return 0 if all(noticed) else 1
 
 

@@ -7,9 +7,13 @@
 
 The templates are proofs_by_name/CRATE/MOD.FN.txt, or FN.txt for a function of the crate's lib.rt; README.md beside them
 says how they are written. The steps are asked of `rt dev CRATE`, so that a crate that does not parse gives none.
+
+For the older kit, rattle-kit-5b-plain. Today's has no `rt dev`, names facts and goals itself and finds most proofs, so that no
+proof file of today's crates is written from a template.
 """
 import contextlib
 import os
+import re
 import subprocess
 import sys
 import tempfile
@@ -39,7 +43,7 @@ def put(path, text):
 def crates_beneath():
     """The crates that each crate may name, by crates.txt."""
     lines = [line.split(':') for line in text_of(os.path.join(TOP, 'crates.txt')).split('\n') if ':' in line]
-    return {crate: names.split() for crate, names in lines if not crate.startswith('#')}
+    return {crate.split()[0]: names.split() for crate, names in lines if not crate.startswith('#')}
 
 
 def crates_with_templates():
@@ -52,6 +56,14 @@ def functions_with_templates(crate):
     folder = os.path.join(TEMPLATES, crate)
     names = sorted(os.listdir(folder)) if os.path.isdir(folder) else []
     return [name.removesuffix('.txt') for name in names if name.endswith('.txt')]
+
+
+def stands(crate, function):
+    """Whether a crate's code has a function, MOD.FN, or FN of its lib.rt or main.rt."""
+    *modules, name = function.split('.')
+    files = ['/'.join(modules) + '.rt'] if modules else ['lib.rt', 'main.rt']
+    paths = [os.path.join(TOP, 'crates', crate, 'src', file) for file in files]
+    return any(re.search(rf'\bfn {name}\b', text_of(path)) for path in paths if os.path.isfile(path))
 
 
 def proof_path(crate, function):

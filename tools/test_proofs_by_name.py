@@ -250,14 +250,14 @@ class Commands(unittest.TestCase):
 
 
 class Repository(unittest.TestCase):
-    def test_every_template_is_read_and_has_a_proof_file(self):
+    def test_every_template_is_read_and_is_of_a_function(self):
         for crate in proofs_by_name.crates_with_templates():
             self.assertIn(crate, proofs_by_name.crates_beneath())
             for function in proofs_by_name.functions_with_templates(crate):
                 with self.subTest(f'{crate} {function}'):
                     path = os.path.join(proofs_by_name.TEMPLATES, crate, f'{function}.txt')
                     template_of(proofs_by_name.text_of(path))
-                    self.assertTrue(proofs_by_name.written(proof_path(crate, function)))
+                    self.assertTrue(proofs_by_name.stands(crate, function))
 
 
 if __name__ == '__main__':

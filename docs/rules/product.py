@@ -25,7 +25,7 @@ def output_of(program, data):
     """The bytes that a proved program writes for its standard input."""
     path = ROOT / 'target' / 'bin' / program
     if not path.exists():
-        sys.exit(f'{path.relative_to(ROOT)} is not there: rt check {program}')
+        sys.exit(f'{path.relative_to(ROOT)} is not there: bash library/programs.sh {program}')
     return subprocess.run([path], input=data, capture_output=True, check=True).stdout
 
 

@@ -117,7 +117,7 @@ class Checks(unittest.TestCase):
     def test_examples(self):
         texts = [name.replace('.account', '.txt') for name in EXAMPLES]
         status, output, errors = command('check', *EXAMPLES, *texts)
-        self.assertEqual((status, errors), (1, 'serpentgleam: 30 files: 28 in order, 2 with faults\n'))
+        self.assertEqual((status, errors), (1, 'serpentgleam: 26 files: 24 in order, 2 with faults\n'))
         self.assertEqual(output.decode().split('\n'), [
             f'{WRONG_SIDE}: position row 2, field barrier-price: refusal 11: a down barrier is below PV, unless '
             'knocked-in or knocked-out',

@@ -1,8 +1,8 @@
 //! What the brute force says of blocked contracts (document 02 [9]).
 
-use reference::account::{Account, Barrier};
-use reference::brute_force::{check, cover_promised, reference_claim, Claim};
-use reference::draft::{file, held, written, PositionDraft, SeriesDraft, CALL, PUT};
+use reference::account::Account;
+use reference::brute_force::{check, reference_claim, Claim};
+use reference::draft::{file, held, written, PositionDraft, SeriesDraft, CALL};
 use reference::lines::{margin, Left, Margin};
 use reference::pairing::Pair;
 use reference::random::Random;
@@ -75,27 +75,17 @@ fn a_blocked_contract_brings_nothing_in() {
     assert!(violation.starts_with("blocked: 2 of 3 contracts of row 1"), "{violation}");
 }
 
-/// With fb above 1,000,000 too, where the cover is promised and where it is not
-/// (document 02 [11]).
+/// Also where the cover is not promised.
 #[test]
 fn a_blocked_contract_in_a_pair_is_found_with_any_factor() {
-    let of_calls = two_rows(SeriesDraft { fb: 1_000_001, ..SeriesDraft::checked(CALL) });
-    let mut of_puts = two_rows(SeriesDraft { fb: 1_000_001, ..SeriesDraft::checked(PUT) });
-    for position in &mut of_puts.positions {
-        position.barrier = Barrier::UpAndIn(3500);
-    }
-    for (account, promised) in [(of_calls, true), (of_puts, false)] {
-        assert_eq!(cover_promised(&account), promised);
-        assert!(check(&account, &pair_of(&account, 1, 3_000), 4).is_ok());
-        let violation = check(&account, &pair_of(&account, 2, 3_000), 4).unwrap_err();
-        assert!(violation.starts_with("blocked"), "{violation}");
-        let violation = check(&account, &pair_of(&account, 2, 0), 4).unwrap_err();
-        assert!(violation.starts_with(if promised { "the cover" } else { "blocked" }));
-        // And after a number of pairs below all.
-        let mut claim = reference_claim(&account);
-        claim.half_paired = vec![pair_of(&account, 2, 3_000).margin];
-        assert!(check(&account, &claim, 4).unwrap_err().starts_with("blocked"));
-    }
+    let account = two_rows(SeriesDraft { fb: 1_000_001, ..SeriesDraft::checked(CALL) });
+    assert!(check(&account, &pair_of(&account, 1, 3_000), 4).is_ok());
+    let violation = check(&account, &pair_of(&account, 2, 0), 4).unwrap_err();
+    assert!(violation.starts_with("blocked"), "{violation}");
+    // And after a number of pairs below all.
+    let mut claim = reference_claim(&account);
+    claim.half_paired = vec![pair_of(&account, 2, 3_000).margin];
+    assert!(check(&account, &claim, 4).unwrap_err().starts_with("blocked"));
 }
 
 /// Blocked contracts are no contracts left for a pair, and others are.

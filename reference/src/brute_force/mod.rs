@@ -79,18 +79,28 @@ pub fn limited_pairs(account: &Account, margin: &Margin) -> usize {
 
 /// All four points, the contracts, the cover and the blocked contracts after
 /// each number of pairs. Gives the number of path steps tried, or the first
-/// violation in words. Where the cover is not promised no path is tried.
+/// violation in words. Where the cover is not promised no path is tried. Where
+/// some fb is above 1,000,000 the blocked contracts are looked at before the
+/// paths, else after them.
 pub fn check(account: &Account, claim: &Claim, longest_path: usize) -> Result<u64, String> {
     for margin in claim.after_each_pair() {
         check_contracts(account, margin)?;
     }
     check_no_pair_left_unmade(account, &claim.margin)?;
-    let steps =
-        if cover_promised(account) { check_on_paths(account, claim, longest_path)? } else { 0 };
-    for margin in claim.after_each_pair() {
-        check_blocked(account, margin)?;
+    let blocked = || {
+        let mut margins = claim.after_each_pair().into_iter();
+        margins.try_for_each(|margin| check_blocked(account, margin))
+    };
+    if least_amount_promised(account) {
+        let steps = check_on_paths(account, claim, longest_path)?;
+        return blocked().map(|()| steps);
     }
-    Ok(steps)
+    blocked()?;
+    if cover_promised(account) {
+        check_on_paths(account, claim, longest_path)
+    } else {
+        Ok(0)
+    }
 }
 
 /// Contracts: pair lines and left line of every row add up to Q.
