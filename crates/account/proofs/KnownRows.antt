@@ -6,7 +6,7 @@ use mathlib.Core.Path.{◌≡◌, sym, subst}
 use Rattle.rules.proofs.Reading.{read_within}
 use Rattle.rules.proofs.TrailerLimits as TrailerLimits
 use Rattle.rules.specs.File.{account_of, layout, position_row, series_row}
-use Rattle.rules.specs.Limits.{FileWithin, Placed, PositionWithin, SeriesWithin}
+use Rattle.rules.specs.Limits.{Placed, PositionWithin, SeriesWithin}
 use Rattle.rules.specs.Refusals.{file_read}
 use Rattle.rules.specs.declared.FileRead.TheVariants.{Accepted}
 use Rattle.rules.specs.declared.Layout.{Layout}

@@ -9,16 +9,14 @@ use native.Mathlib.Omega.{arith}
 use borrow.Author.Tests.{leb-false}
 use lib.Dec.{eqb, leb, ltb}
 use Rattle.rules.proofs.Chain.{none_of_five, passes, stops}
-use Rattle.rules.proofs.Scan.{CleanTo, FirstAt, clean_more, rows_clean, rows_stop}
+use Rattle.rules.proofs.Scan.{CleanTo, clean_more, rows_clean, rows_stop}
 use Rattle.rules.specs.File.{position_of, position_row, series_row}
-use Rattle.rules.specs.Refusals.{matched_fault, nonzero, position_fault, position_read, position_row_fault, position_rows, read_as, refuse, rows, series_fault, series_rows, wrong_flags, wrong_terms}
+use Rattle.rules.specs.Refusals.{matched_fault, nonzero, position_fault, position_read, position_row_fault, position_rows, read_as, series_fault, series_rows, wrong_flags, wrong_terms}
 use Rattle.rules.specs.declared.Fault.{Fault}
 use Rattle.rules.specs.declared.Fault.TheVariants.{Clean, Found}
-use Rattle.rules.specs.declared.FileRead.{FileRead}
 use Rattle.rules.specs.declared.FileRead.TheVariants.{Accepted, Refused}
 use Rattle.rules.specs.declared.Layout.{Layout}
 use Rattle.rules.specs.declared.Position.{Position}
-use Rattle.rules.specs.declared.PositionRead.{PositionRead}
 use Rattle.rules.specs.declared.PositionRead.TheVariants.{Read, Unreadable}
 use Rattle.rules.specs.declared.PositionRow.{PositionRow}
 use Rattle.rules.specs.declared.Refusal.{Refusal}

@@ -1,7 +1,7 @@
 -- Values of the load: the states, series and rows of three seeds with every kind among them, a file byte for byte, the buffer
 -- after a call, and the answers at the ends of the ranges. They were worked out by another implementation.
 -- Assumes nothing.
-use Prim.Native.Nat.{ℕ, ◌+◌}
+use Prim.Native.Nat.{ℕ}
 use mathlib.Core.List.{List, [], ◌∷◌, ◌++◌}
 use mathlib.Core.Path.{◌≡◌, refl}
 use lib.ListN.{replicate}

@@ -5,7 +5,6 @@ use mathlib.Core.List.{List, [], ◌∷◌, ◌++◌}
 use mathlib.Core.Path.{◌≡◌}
 use lib.IntN.{neg_ℤ, pos}
 use Rattle.rules.proofs.CheckOrder.{no_rows, series_row_bytes, trailer_bytes}
-use Rattle.rules.proofs.CheckedValues.{series}
 use Rattle.rules.specs.File.{barrier_of, flags_of, limiter_of, option_of, position_row_from, position_width, series_row_from, series_width, side_of, span, trailer_width, u16_at, u24_at, u32_at, u8_at}
 use Rattle.rules.specs.Limits.{most_bytes, most_positions, most_series}
 use Rattle.rules.specs.Lines.{margin_answer, premium_answer}

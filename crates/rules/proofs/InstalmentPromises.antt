@@ -18,9 +18,8 @@ use Rattle.rules.proofs.Most.{within_most_after}
 use Rattle.rules.proofs.Rounds.{made_left}
 use Rattle.rules.proofs.Sums.{sum_over-append}
 use Rattle.rules.specs.File.{Account}
-use Rattle.rules.specs.Instalments.{AfterAllowances, AllowancesDemand, CoverSoFar, HalfPaired, HalfPairedDemand, HalfPairedLongDemand, PairedList, after_call, after_calls, all_pairs, amount_so_far, begun, first_pairs, list_paired, made_of, pair_answer, pairs_told, remainders}
+use Rattle.rules.specs.Instalments.{AfterAllowances, AllowancesDemand, CoverSoFar, HalfPaired, HalfPairedDemand, HalfPairedLongDemand, PairedList, after_call, after_calls, all_pairs, begun, first_pairs, list_paired, made_of, pair_answer, pairs_told, remainders}
 use Rattle.rules.specs.Lines.{entries_for, left_with_blocked, line_amount, pair_lines, sum_over, total_after}
-use Rattle.rules.specs.LongExpiries.{NoExceptedPut}
 use Rattle.rules.specs.Pairs.{Made, available, book_of, pairs_after}
 use Rattle.rules.specs.Promises.{left_quantity, line_brings_in, pair_quantity}
 use Rattle.rules.specs.Refusals.{accepted, meaning}

@@ -1,5 +1,4 @@
 use Rattle.rules.proofs.DayPromises.{file_refused}
-use borrow.Author.Rules.{rules}
 use mathlib.Core.Path.{◌∙◌, refl, sym}
 use Rattle.day.proofs.apply_day.Goals as goal
 

@@ -1,6 +1,5 @@
 use Rattle.account.proofs.KnownRows.{known}
 use Rattle.rules.proofs.DayPromises.{day_applied, prices_refused, series_refused}
-use borrow.Author.Rules.{rules}
 use borrow.Author.Tests.{le-leb, lt-leb}
 use mathlib.Core.Path.{◌∙◌, refl, sym}
 use Rattle.day.proofs.day_of_accepted.Goals as goal

@@ -1,9 +1,4 @@
 use Rattle.day.proofs.Loop.{day_by_stores}
-use Rattle.rules.proofs.DayLaws.{flags_length}
-use borrow.Author.Rules.{rules}
-use lib.ListN.{length}
-use mathlib.Core.Path.{◌∙◌, ap}
-use native.Mathlib.Omega.{arith}
 use Rattle.day.proofs.write_day.Goals as goal
 
 pub returns : goal.returns

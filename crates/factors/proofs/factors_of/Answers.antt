@@ -1,5 +1,4 @@
-use Rattle.factors.proofs.Steps.{factors_are, high_formula_asked, high_growth_asked, low_formula_asked, low_growth_asked}
-use borrow.Author.Rules.{rules}
+use Rattle.factors.proofs.Steps.{high_formula_asked, high_growth_asked, low_formula_asked, low_growth_asked}
 use lib.Dec.{lit≤}
 use Rattle.factors.proofs.factors_of.Goals as goal
 

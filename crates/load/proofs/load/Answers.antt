@@ -1,8 +1,5 @@
-use Rattle.load.proofs.LoadAnswers.{call_made, call_refused, passes_within}
-use borrow.Author.Rules.{rules}
-use lib.ListN.{length}
+use Rattle.load.proofs.LoadAnswers.{call_made, call_refused}
 use mathlib.Core.Path.{◌∙◌, refl, sym}
-use native.Mathlib.Omega.{arith}
 use Rattle.load.proofs.load.Goals as goal
 
 pub returns-then-wrong_load-clause-answer : goal.returns-then-wrong_load-clause-answer

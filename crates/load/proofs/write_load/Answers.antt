@@ -1,8 +1,6 @@
-use Prim.Native.Nat.{◌-◌}
-use Rattle.load.proofs.LoadWriting.{Walked, row_asked, size_kept, walk_begins, walk_ends, walk_goes_on}
+use Rattle.load.proofs.LoadWriting.{row_asked, walk_begins, walk_ends, walk_goes_on}
 use Rattle.rules.specs.declared.SeriesRow.{SeriesRow}
-use mathlib.Core.Path.{◌∙◌, ap}
-use native.Mathlib.Omega.{arith}
+use mathlib.Core.Path.{ap}
 use Rattle.load.proofs.write_load.Goals as goal
 
 pub loop-r-init : goal.loop-r-init

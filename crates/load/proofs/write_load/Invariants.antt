@@ -1,8 +1,5 @@
 use Prim.Native.Nat.{◌-◌}
-use Rattle.load.proofs.LoadWriting.{Walked, row_asked, size_kept, walk_begins, walk_ends, walk_goes_on}
-use Rattle.rules.specs.declared.SeriesRow.{SeriesRow}
-use mathlib.Core.Path.{◌∙◌, ap}
-use native.Mathlib.Omega.{arith}
+use Rattle.load.proofs.LoadWriting.{Walked}
 use Rattle.load.proofs.write_load.Given as goal
 
 abbrev pub invariant-loop-r : goal.invariant-loop-r

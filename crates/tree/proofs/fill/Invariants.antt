@@ -1,5 +1,4 @@
-use Rattle.tree.proofs.TreeLaws.{Filled, fill_more, fill_end}
-use borrow.Author.Rules.{rules}
+use Rattle.tree.proofs.TreeLaws.{Filled}
 use Rattle.tree.proofs.fill.Given as goal
 
 abbrev pub invariant-loop-i : goal.invariant-loop-i

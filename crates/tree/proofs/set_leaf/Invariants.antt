@@ -1,11 +1,6 @@
-use Prim.Native.Nat.{◌+◌, ◌/◌}
 use Rattle.numbers.specs.Lists.{nth}
-use Rattle.tree.proofs.TreeLaws.{Climbed, climb_end, climb_more, climb_none, climbed}
-use borrow.Author.Rules.{rules}
-use lib.ListN.{length-set, set}
-use lib.Seq.{get_or-set_same}
+use Rattle.tree.proofs.TreeLaws.{Climbed}
 use mathlib.Core.Path.{◌≡◌}
-use native.Mathlib.Omega.{arith}
 use Rattle.tree.proofs.set_leaf.Given as goal
 
 abbrev pub invariant-loop-i : goal.invariant-loop-i

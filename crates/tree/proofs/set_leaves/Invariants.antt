@@ -1,9 +1,7 @@
-use Prim.Native.Nat.{◌-◌, ◌<◌, ◌≤◌}
-use Rattle.tree.proofs.TreeLaws.{leaves_more}
+use Prim.Native.Nat.{◌-◌, ◌≤◌}
 use Rattle.tree.specs.Tree.{LeavesSet}
-use lib.ListN.{length, length-set}
-use mathlib.Core.Path.{◌≡◌, refl}
-use native.Mathlib.Omega.{arith}
+use lib.ListN.{length}
+use mathlib.Core.Path.{◌≡◌}
 use Rattle.tree.proofs.set_leaves.Given as goal
 
 abbrev pub invariant-loop-w : goal.invariant-loop-w

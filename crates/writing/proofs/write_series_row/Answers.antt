@@ -1,7 +1,4 @@
 use Rattle.writing.proofs.RowsStored.{series_stored}
-use borrow.Author.Rules.{rules}
-use mathlib.Core.Path.{◌∙◌}
-use native.Mathlib.Omega.{arith}
 use Rattle.writing.proofs.write_series_row.Goals as goal
 
 pub returns : goal.returns

@@ -1,5 +1,4 @@
 use Rattle.writing.proofs.RowsStored.{trailer_stored}
-use borrow.Author.Rules.{rules}
 use Rattle.writing.proofs.write_trailer.Goals as goal
 
 pub returns : goal.returns

@@ -1,6 +1,5 @@
 use Rattle.rules.proofs.Chain.{stops, passes}
 use Rattle.rules.specs.Refusals.{matched_fault}
-use borrow.Author.Rules.{rules}
 use mathlib.Core.Path.{refl}
 use Rattle.account.proofs.faults.matched_fault.Goals as goal
 

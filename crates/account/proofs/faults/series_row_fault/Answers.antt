@@ -1,6 +1,5 @@
 use Rattle.rules.proofs.Chain.{stops, passes}
 use Rattle.rules.specs.Refusals.{series_row_fault}
-use borrow.Author.Rules.{rules}
 use mathlib.Core.Path.{refl}
 use Rattle.account.proofs.faults.series_row_fault.Goals as goal
 

@@ -1,8 +1,5 @@
-use Rattle.rules.proofs.Chain.{inside, passes, stops}
-use Rattle.rules.specs.File.{trailer_width}
-use Rattle.rules.specs.Limits.{most_bytes}
+use Rattle.rules.proofs.Chain.{passes, stops}
 use Rattle.rules.specs.Refusals.{trailer_fault}
-use lib.ListN.{length}
 use mathlib.Core.Path.{refl}
 use Rattle.account.proofs.faults.trailer_fault.Goals as goal
 

@@ -1,6 +1,4 @@
-use Rattle.account.proofs.RowReading.{row_read, row_unread, terms_series, terms_stop}
-use borrow.Author.Rules.{rules}
-use mathlib.Core.Path.{sym, ◌∙◌}
+use Rattle.account.proofs.RowReading.{row_read, row_unread, terms_stop}
 use Rattle.account.proofs.reader.position_read.Goals as goal
 
 pub returns-then-wrong_terms : goal.returns-then-wrong_terms

@@ -1,10 +1,6 @@
 use Prim.Native.Nat.{◌≤◌, ◌-◌}
-use Rattle.account.proofs.RowReading.{clean_next, position_stop, positions_clean, read_clean, read_found}
-use Rattle.rules.proofs.Scan.{CleanTo, clean_none}
+use Rattle.rules.proofs.Scan.{CleanTo}
 use Rattle.rules.specs.Refusals.{position_fault}
-use borrow.Author.Rules.{rules}
-use mathlib.Core.Path.{sym, ◌∙◌}
-use native.Mathlib.Omega.{arith}
 use Rattle.account.proofs.reader.position_rows.Given as goal
 
 abbrev pub invariant-loop-row : goal.invariant-loop-row

@@ -3,7 +3,6 @@ use Rattle.rules.specs.File.{layout}
 use Rattle.rules.specs.Limits.{Placed}
 use Rattle.rules.specs.Refusals.{file_read, or_else, series_rows}
 use Rattle.rules.specs.declared.Fault.{Fault}
-use borrow.Author.Rules.{rules}
 use mathlib.Core.Path.{ap, subst, sym, ◌∙◌}
 use Rattle.account.proofs.reader.read_file.Goals as goal
 

@@ -1,12 +1,7 @@
-use Prim.Native.Nat.{◌≤◌, ◌-◌}
-use Rattle.account.proofs.RowReading.{all_series_clean, clean_next, series_stop}
-use Rattle.rules.proofs.Scan.{CleanTo, clean_none}
-use Rattle.rules.specs.Refusals.{series_fault}
+use Rattle.account.proofs.RowReading.{all_series_clean, series_stop}
 use Rattle.rules.specs.Refusals.{series_row_fault}
-use borrow.Author.Rules.{rules}
 use mathlib.Core.Path.{ap}
 use mathlib.Core.Path.{sym, ◌∙◌}
-use native.Mathlib.Omega.{arith}
 use Rattle.account.proofs.reader.series_rows.Goals as goal
 
 pub returns-in-loop-at : goal.returns-in-loop-at

@@ -1,5 +1,4 @@
 use Rattle.rules.specs.File.{layout}
-use borrow.Author.Rules.{rules}
 use Rattle.account.proofs.rows.layout_of.Goals as goal
 
 pub returns : goal.returns

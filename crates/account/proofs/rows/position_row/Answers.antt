@@ -1,7 +1,4 @@
-use Prim.Native.Nat.{◌*◌, ℕ}
 use Rattle.rules.specs.File.{position_row}
-use mathlib.Core.Path.{ap}
-use native.Mathlib.Omega.{arith}
 use Rattle.account.proofs.rows.position_row.Goals as goal
 
 pub returns : goal.returns

@@ -1,5 +1,4 @@
 use Rattle.rules.specs.File.{series_row}
-use borrow.Author.Rules.{rules}
 use Rattle.account.proofs.rows.series_row.Goals as goal
 
 pub returns : goal.returns

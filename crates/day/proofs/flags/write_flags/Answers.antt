@@ -1,8 +1,5 @@
-use Prim.Native.Nat.{◌-◌, ◌≤◌, ℕ}
-use Rattle.day.proofs.Loop.{row_flags, same_size, still_placed, stored}
+use Rattle.day.proofs.Loop.{row_flags, still_placed, stored}
 use Rattle.rules.proofs.DayLaws.{flags_none}
-use Rattle.rules.specs.Day.{flags_written}
-use mathlib.Core.Path.{◌≡◌, subst}
 use native.Mathlib.Omega.{arith}
 use Rattle.day.proofs.flags.write_flags.Goals as goal
 

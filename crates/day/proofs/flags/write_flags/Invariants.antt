@@ -1,9 +1,6 @@
-use Prim.Native.Nat.{◌-◌, ◌≤◌, ℕ}
-use Rattle.day.proofs.Loop.{row_flags, same_size, still_placed, stored}
-use Rattle.rules.proofs.DayLaws.{flags_none}
+use Prim.Native.Nat.{◌-◌, ◌≤◌}
 use Rattle.rules.specs.Day.{flags_written}
-use mathlib.Core.Path.{◌≡◌, subst}
-use native.Mathlib.Omega.{arith}
+use mathlib.Core.Path.{◌≡◌}
 use Rattle.day.proofs.flags.write_flags.Given as goal
 
 abbrev pub invariant-loop-r : goal.invariant-loop-r

@@ -1,12 +1,7 @@
-use Prim.Native.Nat.{◌≤◌}
 use Rattle.day.proofs.Loop.{other_row, own_row}
-use Rattle.rules.proofs.DayLaws.{rows_end}
 use Rattle.rules.specs.Day.{flags_crossed}
 use Rattle.rules.specs.declared.Barrier.{Barrier}
-use Rattle.rules.specs.declared.PositionRow.{PositionRow}
-use borrow.Author.Rules.{rules}
-use mathlib.Core.Path.{◌∙◌, ap, subst, sym}
-use native.Mathlib.Omega.{arith}
+use mathlib.Core.Path.{◌∙◌, ap}
 use Rattle.day.proofs.flags.write_row_flags.Goals as goal
 
 pub returns-then-row-d : goal.returns-then-row-d

@@ -1,5 +1,4 @@
 use mathlib.Core.Path.{refl}
-use borrow.Author.Rules.{rules}
 use Rattle.factors.proofs.Daily.{numbers_of}
 use Rattle.factors.specs.Factors.{multiplied}
 use Rattle.factors.specs.declared.Code.TheVariants.{FCI, FPI, OFC, OFV}

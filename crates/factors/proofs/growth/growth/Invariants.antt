@@ -1,11 +1,6 @@
-use Prim.Native.Nat.{ℕ, ◌*◌, ◌-◌, ◌≤◌}
-use mathlib.Core.Path.{◌≡◌, refl, ap, ◌∙◌}
-use native.Mathlib.Nat.{mul-le-mul}
-use native.Mathlib.Numerals.{add-one}
-use native.Mathlib.Omega.{arith}
-use Rattle.factors.proofs.Multiplied.{growth_most}
+use Prim.Native.Nat.{◌-◌, ◌≤◌}
+use mathlib.Core.Path.{◌≡◌}
 use Rattle.factors.specs.Factors.{multiplied}
-use Rattle.factors.specs.Numbers.{GrowthAsked, most_growth}
 use Rattle.factors.proofs.growth.growth.Given as goal
 
 abbrev pub invariant-loop-k : goal.invariant-loop-k

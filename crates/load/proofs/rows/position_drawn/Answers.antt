@@ -1,5 +1,4 @@
 use Rattle.load.proofs.DrawLaws.{row_is, row_state}
-use borrow.Author.Rules.{rules}
 use Rattle.load.proofs.rows.position_drawn.Goals as goal
 
 pub returns : goal.returns

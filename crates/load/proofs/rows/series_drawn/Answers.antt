@@ -1,5 +1,4 @@
 use Rattle.load.proofs.DrawLaws.{series_is, series_state}
-use borrow.Author.Rules.{rules}
 use Rattle.load.proofs.rows.series_drawn.Goals as goal
 
 pub returns : goal.returns

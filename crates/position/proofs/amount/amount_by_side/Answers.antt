@@ -2,7 +2,6 @@ use Prim.Native.Nat.{ℕ}
 use Rattle.position.proofs.TermsUnit.{terms_unit}
 use Rattle.rules.specs.OnePosition.{amount_by_side, amount_of}
 use Rattle.rules.specs.declared.Side.{Side}
-use borrow.Author.Rules.{rules}
 use mathlib.Core.Path.{◌∙◌, ap, sym}
 use native.Mathlib.Omega.{arith}
 use Rattle.position.proofs.amount.amount_by_side.Goals as goal

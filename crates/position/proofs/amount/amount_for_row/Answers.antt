@@ -1,6 +1,5 @@
 use Rattle.account.proofs.KnownRows.{known}
 use Rattle.position.proofs.RowsFit.{answer_read_lem}
-use borrow.Author.Rules.{rules}
 use mathlib.Core.Path.{sym, ◌∙◌}
 use native.Mathlib.Omega.{arith}
 use Rattle.position.proofs.amount.amount_for_row.Goals as goal

@@ -2,7 +2,6 @@ use Rattle.account.proofs.KnownRows.{read_series_below}
 use Rattle.position.proofs.RowsFit.{amount_at_row, at_row, row_fits}
 use Rattle.position.specs.Fits.{RowFits}
 use Rattle.rules.specs.File.{account_of}
-use borrow.Author.Rules.{rules}
 use mathlib.Core.Path.{◌∙◌}
 use Rattle.position.proofs.amount.row_amount.Goals as goal
 

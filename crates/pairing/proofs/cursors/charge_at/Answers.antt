@@ -1,0 +1,6 @@
+use Rattle.pairing.proofs.SearchLaws.{answered}
+use borrow.Author.Rules.{rules}
+use Rattle.pairing.proofs.cursors.charge_at.Goals as goal
+
+pub returns : goal.returns
+returns c = answered c.args.file.now c.args.l c.args.w c.args.h c.requires c.position_at-held.result c.normalised.result c.position_at-held.ensures c.normalised.ensures _ c.charge_between.ensures

@@ -1,0 +1,16 @@
+use Prim.Native.Nat.{◌%◌, ◌/◌, ◌<◌, ◌≤◌}
+use Rattle.lanes.specs.Keys.{none}
+use Rattle.numbers.specs.Lists.{nth}
+use Rattle.pairing.proofs.AskLaws.{settled_is, to_ask_falls, to_ask}
+use Rattle.pairing.specs.Standings.{Standings}
+use Rattle.rules.specs.File.{account_of}
+use lib.ListN.{length}
+use mathlib.Core.Path.{◌∙◌, ◌≡◌, ap, refl}
+use native.Mathlib.Omega.{arith}
+use Rattle.pairing.proofs.rows.best_rank.Given as goal
+
+abbrev pub invariant-loop-r : goal.invariant-loop-r
+invariant-loop-r l = (l.r ≡ nth l.tree 1) × Standings (account_of l.file l.l) l.left l.table l.tree l.places × (length l.tree ≡ length l.initial.tree) × (length l.places ≡ length l.initial.places) × (l.times ≤ 8)
+
+abbrev pub decreases-loop-r : goal.decreases-loop-r
+decreases-loop-r l = to_ask l.places l.r
