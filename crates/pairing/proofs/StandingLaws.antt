@@ -18,7 +18,6 @@ use Rattle.pairing.proofs.RankLaws.{distance_later}
 use Rattle.pairing.proofs.SearchLaws.{rank_later}
 use Rattle.tree.specs.Tree.{LeafPut, Leafed, LeavesSet, SameLeaves, Tree}
 use Rattle.pairing.specs.declared.Standing.{Standing}
-use Rattle.rules.proofs.PairOrder.{rank}
 use Rattle.rules.specs.File.{Account}
 
 leafed_same : (a : Account) (tree tree' : List ℕ) → length tree' ≡ length tree → Leafed a.positions tree → Leafed a.positions tree'

@@ -1,5 +1,4 @@
 use Rattle.pairing.proofs.SearchLaws.{answered}
-use borrow.Author.Rules.{rules}
 use Rattle.pairing.proofs.cursors.charge_at.Goals as goal
 
 pub returns : goal.returns

@@ -1,7 +1,6 @@
 use Prim.Native.Nat.{◌<◌}
 use Rattle.lanes.specs.Keys.{none}
-use Rattle.pairing.proofs.SearchLaws.{distance_asked, distance_marked, nearer, nothing_near, ranked_here, top_marked}
-use borrow.Author.Rules.{rules}
+use Rattle.pairing.proofs.SearchLaws.{distance_asked, distance_marked, nothing_near, ranked_here, top_marked}
 use mathlib.Core.Path.{◌∙◌, refl}
 use native.Mathlib.Omega.{arith}
 use Rattle.pairing.proofs.cursors.lower_bound.Goals as goal

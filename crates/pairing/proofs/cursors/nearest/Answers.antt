@@ -1,9 +1,4 @@
-use Prim.Native.Nat.{◌+◌, ◌-◌, ◌≤◌}
-use Rattle.lanes.specs.Keys.{none}
 use Rattle.pairing.proofs.SearchLaws.{distance_asked, distance_marked, down_moves, found, nearer, nothing_near, top_marked, up_moves}
-use Rattle.pairing.specs.Cursors.{Places}
-use Rattle.rules.specs.File.{account_of}
-use borrow.Author.Rules.{rules}
 use mathlib.Core.Path.{◌∙◌, refl}
 use native.Mathlib.Omega.{arith}
 use Rattle.pairing.proofs.cursors.nearest.Goals as goal

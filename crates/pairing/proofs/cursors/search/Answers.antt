@@ -1,7 +1,4 @@
 use Rattle.account.proofs.KnownRows.{series_below}
-use Rattle.pairing.proofs.SearchLaws.{reading}
-use borrow.Author.Rules.{rules}
-use native.Mathlib.Omega.{arith}
 use Rattle.pairing.proofs.cursors.search.Goals as goal
 
 pub series_of_position-requires : goal.series_of_position-requires

@@ -1,6 +1,4 @@
-use Prim.Native.Nat.{◌-◌, ◌≤◌}
-use Rattle.lanes.specs.Keys.{none}
-use Rattle.pairing.proofs.SearchLaws.{OwnCursor, skip_begins, skip_end, skip_moves, skip_rises, skip_row, skip_stops}
+use Rattle.pairing.proofs.SearchLaws.{skip_moves, skip_rises}
 use native.Mathlib.Omega.{arith}
 use Rattle.pairing.proofs.cursors.skip_spent.Goals as goal
 

@@ -1,7 +1,6 @@
 use Prim.Native.Nat.{◌-◌, ◌≤◌}
 use Rattle.lanes.specs.Keys.{none}
-use Rattle.pairing.proofs.SearchLaws.{OwnCursor, skip_begins, skip_end, skip_moves, skip_rises, skip_row, skip_stops}
-use native.Mathlib.Omega.{arith}
+use Rattle.pairing.proofs.SearchLaws.{OwnCursor}
 use Rattle.pairing.proofs.cursors.skip_spent.Given as goal
 
 abbrev pub invariant-loop-u : goal.invariant-loop-u

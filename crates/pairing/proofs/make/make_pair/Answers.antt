@@ -1,8 +1,4 @@
 use Rattle.pairing.proofs.FileFacts.{spread_most}
-use Rattle.pairing.proofs.MakeLaws.{pair_written}
-use borrow.Author.Rules.{rules}
-use lib.Dec.{lit≤}
-use lib.ListN.{length-set}
 use native.Mathlib.Omega.{arith}
 use Rattle.pairing.proofs.make.make_pair.Goals as goal
 

@@ -1,6 +1,5 @@
 use Rattle.pairing.proofs.FileFacts.{row_range}
-use Rattle.pairing.proofs.MakeLaws.{amount_is, factor_within}
-use borrow.Author.Rules.{rules}
+use Rattle.pairing.proofs.MakeLaws.{factor_within}
 use Rattle.pairing.proofs.make.pair_amount.Goals as goal
 
 pub series_row-series-requires : goal.series_row-series-requires

@@ -1,11 +1,8 @@
 use Prim.Native.Nat.{◌%◌, ◌+◌, ◌/◌}
 use Rattle.lanes.proofs.FileFacts.{ranged}
-use Rattle.pairing.proofs.Turn.{round_asks, round_room, round_stops, round_turns, rounds_over, still_standing}
-use Rattle.pairing.specs.Pairing.{PairedBy}
-use Rattle.pairing.specs.Standings.{Standings}
+use Rattle.pairing.proofs.Turn.{round_asks, round_room, round_stops, round_turns, still_standing}
 use Rattle.rules.specs.File.{account_of}
-use lib.ListN.{length}
-use mathlib.Core.Path.{◌∙◌, ◌≡◌, refl}
+use mathlib.Core.Path.{◌∙◌}
 use native.Mathlib.Omega.{arith}
 use Rattle.pairing.proofs.pairs.pair_rounds.Goals as goal
 

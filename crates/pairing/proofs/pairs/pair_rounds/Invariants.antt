@@ -1,12 +1,9 @@
-use Prim.Native.Nat.{◌%◌, ◌+◌, ◌/◌}
-use Rattle.lanes.proofs.FileFacts.{ranged}
-use Rattle.pairing.proofs.Turn.{round_asks, round_room, round_stops, round_turns, rounds_over, still_standing}
+use Prim.Native.Nat.{◌+◌}
 use Rattle.pairing.specs.Pairing.{PairedBy}
 use Rattle.pairing.specs.Standings.{Standings}
 use Rattle.rules.specs.File.{account_of}
 use lib.ListN.{length}
-use mathlib.Core.Path.{◌∙◌, ◌≡◌, refl}
-use native.Mathlib.Omega.{arith}
+use mathlib.Core.Path.{◌≡◌}
 use Rattle.pairing.proofs.pairs.pair_rounds.Given as goal
 
 abbrev pub invariant-loop-allowance : goal.invariant-loop-allowance

@@ -1,8 +1,5 @@
-use Rattle.pairing.proofs.StandingLaws.{leaves_none}
 use Rattle.pairing.proofs.Turn.{began, both, no_rows}
 use Rattle.rules.specs.File.{account_of}
-use borrow.Author.Rules.{rules}
-use mathlib.Core.Path.{◌∙◌}
 use native.Mathlib.Omega.{arith}
 use Rattle.pairing.proofs.pairs.pair_up.Goals as goal
 

@@ -1,7 +1,5 @@
-use Rattle.pairing.proofs.StandingLaws.{begun, begun_waits}
+use Rattle.pairing.proofs.StandingLaws.{begun}
 use Rattle.rules.specs.File.{account_of}
-use lib.ListN.{length-set}
-use native.Mathlib.Omega.{arith}
 use Rattle.pairing.proofs.rows.begin_row.Goals as goal
 
 pub returns : goal.returns

@@ -1,10 +1,8 @@
 use Prim.Native.Nat.{◌-◌, ◌≤◌}
-use Rattle.pairing.proofs.StandingLaws.{standings_filled}
 use Rattle.pairing.specs.Standings.{Leaves}
 use Rattle.rules.specs.File.{account_of}
 use lib.ListN.{length}
-use mathlib.Core.Path.{◌∙◌, ◌≡◌, refl}
-use native.Mathlib.Omega.{arith}
+use mathlib.Core.Path.{◌≡◌}
 use Rattle.pairing.proofs.rows.begin_rows.Given as goal
 
 abbrev pub invariant-loop-w : goal.invariant-loop-w

@@ -1,12 +1,10 @@
-use Prim.Native.Nat.{◌%◌, ◌/◌, ◌<◌, ◌≤◌}
-use Rattle.lanes.specs.Keys.{none}
+use Prim.Native.Nat.{◌≤◌}
 use Rattle.numbers.specs.Lists.{nth}
-use Rattle.pairing.proofs.AskLaws.{settled_is, to_ask_falls, to_ask}
+use Rattle.pairing.proofs.AskLaws.{to_ask}
 use Rattle.pairing.specs.Standings.{Standings}
 use Rattle.rules.specs.File.{account_of}
 use lib.ListN.{length}
-use mathlib.Core.Path.{◌∙◌, ◌≡◌, ap, refl}
-use native.Mathlib.Omega.{arith}
+use mathlib.Core.Path.{◌≡◌}
 use Rattle.pairing.proofs.rows.best_rank.Given as goal
 
 abbrev pub invariant-loop-r : goal.invariant-loop-r

@@ -1,6 +1,5 @@
 use Rattle.pairing.proofs.RowLaws.{first_places, not_written}
 use mathlib.Core.Path.{refl}
-use native.Mathlib.Omega.{arith}
 use Rattle.pairing.proofs.rows.first_standing.Goals as goal
 
 pub search-requires : goal.search-requires

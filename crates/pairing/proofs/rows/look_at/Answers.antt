@@ -1,10 +1,5 @@
-use Rattle.pairing.proofs.LeastLaws.{both_spent}
-use Rattle.pairing.proofs.RenewLaws.{looked_renewed, looked_same}
-use Rattle.pairing.proofs.RowLaws.{both_some}
+use Rattle.pairing.proofs.RenewLaws.{looked_renewed}
 use Rattle.rules.specs.File.{account_of}
-use mathlib.Core.Bool.{false≢true}
-use mathlib.Core.Path.{◌∙◌, sym}
-use native.Mathlib.Omega.{arith}
 use Rattle.pairing.proofs.rows.look_at.Goals as goal
 
 pub returns : goal.returns

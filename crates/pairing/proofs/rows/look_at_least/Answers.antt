@@ -1,6 +1,4 @@
-use Rattle.pairing.proofs.AskLaws.{least_asked, least_asks, least_stale, risen_nearer}
-use Rattle.rules.specs.File.{account_of}
-use native.Mathlib.Omega.{arith}
+use Rattle.pairing.proofs.AskLaws.{least_asked, least_asks, least_stale}
 use Rattle.pairing.proofs.rows.look_at_least.Goals as goal
 
 pub rank_row-requires : goal.rank_row-requires

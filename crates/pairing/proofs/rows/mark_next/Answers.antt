@@ -1,9 +1,7 @@
 use Rattle.pairing.proofs.StandingLaws.{marked}
 use Rattle.pairing.specs.Standings.{line_after}
 use Rattle.rules.specs.File.{account_of}
-use lib.ListN.{length-set}
 use mathlib.Core.Path.{refl}
-use native.Mathlib.Omega.{arith}
 use Rattle.pairing.proofs.rows.mark_next.Goals as goal
 
 pub returns-then-u-gt0 : goal.returns-then-u-gt0

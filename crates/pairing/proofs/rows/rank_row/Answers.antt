@@ -1,7 +1,6 @@
 use Rattle.lanes.proofs.FileFacts.{ranged}
 use Rattle.pairing.proofs.StandingLaws.{row_put}
 use Rattle.rules.specs.File.{account_of}
-use native.Mathlib.Omega.{arith}
 use Rattle.pairing.proofs.rows.rank_row.Goals as goal
 
 pub returns : goal.returns

@@ -3,7 +3,7 @@ use Rattle.pairing.proofs.RenewLaws.{next_places, own_places, renewed_last, rene
 use Rattle.pairing.proofs.StandingLaws.{but, retired}
 use Rattle.pairing.specs.Standings.{line_after}
 use Rattle.rules.specs.File.{account_of}
-use mathlib.Core.Path.{◌∙◌, refl}
+use mathlib.Core.Path.{refl}
 use native.Mathlib.Omega.{arith}
 use Rattle.pairing.proofs.rows.renew.Goals as goal
 

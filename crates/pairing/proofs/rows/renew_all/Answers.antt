@@ -1,11 +1,7 @@
-use Prim.Native.Nat.{◌-◌, ◌≤◌}
 use Rattle.lanes.proofs.FileFacts.{ranged}
-use Rattle.numbers.specs.Lists.{nth}
 use Rattle.pairing.proofs.RenewLaws.{looked_more, looked_none, raised_all}
-use Rattle.pairing.specs.Standings.{Leaves, LookedTo}
 use Rattle.rules.specs.File.{account_of}
-use lib.ListN.{length}
-use mathlib.Core.Path.{◌∙◌, ◌≡◌, refl}
+use mathlib.Core.Path.{◌∙◌, refl}
 use native.Mathlib.Omega.{arith}
 use Rattle.pairing.proofs.rows.renew_all.Goals as goal
 

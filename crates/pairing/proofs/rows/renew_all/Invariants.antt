@@ -1,12 +1,9 @@
 use Prim.Native.Nat.{◌-◌, ◌≤◌}
-use Rattle.lanes.proofs.FileFacts.{ranged}
 use Rattle.numbers.specs.Lists.{nth}
-use Rattle.pairing.proofs.RenewLaws.{looked_more, looked_none, raised_all}
 use Rattle.pairing.specs.Standings.{Leaves, LookedTo}
 use Rattle.rules.specs.File.{account_of}
 use lib.ListN.{length}
-use mathlib.Core.Path.{◌∙◌, ◌≡◌, refl}
-use native.Mathlib.Omega.{arith}
+use mathlib.Core.Path.{◌≡◌}
 use Rattle.pairing.proofs.rows.renew_all.Given as goal
 
 abbrev pub invariant-loop-v : goal.invariant-loop-v

@@ -1,0 +1,14 @@
+use Rattle.lines_and_total.proofs.SettleLaws.{account_listed, pairing_asks, rows_ask}
+use borrow.Author.Rules.{rules}
+use mathlib.Core.Path.{◌∙◌}
+use native.Mathlib.Omega.{arith}
+use Rattle.lines_and_total.proofs.listing.list_lines.Goals as goal
+
+pub pair_up-made-requires : goal.pair_up-made-requires
+pair_up-made-requires c = pairing_asks c.args.file.now c.args.l c.fill_contracts.new.left c.args.numbers.now c.requires.0 (omega (arith, c.fill_contracts.auto.left)) (omega (arith, c.requires.1)) c.fill_contracts.ensures
+
+pub left_rows-lines-requires : goal.left_rows-lines-requires
+left_rows-lines-requires c = rows_ask c.args.file.now c.args.l c.args.count c.pair_up-made.new.table c.pair_up-made.new.left c.pair_up-made.new.numbers c.pair_up-made.result c.requires.0 (omega (arith, c.pair_up-made.auto.left, c.fill_contracts.auto.left)) (c.pair_up-made.auto.numbers ∙ c.requires.1) c.pair_up-made.ensures
+
+pub returns : goal.returns
+returns c = account_listed c.args.file.now c.args.l c.args.count c.pair_up-made.new.table c.pair_up-made.new.left c.pair_up-made.new.numbers c.left_rows-lines.new.numbers c.pair_up-made.result c.left_rows-lines.result c.requires.0 (c.pair_up-made.auto.numbers ∙ c.requires.1) c.pair_up-made.ensures c.left_rows-lines.ensures
