@@ -10,9 +10,9 @@ ghost use Rattle.std.specs.Prelude.{◌+◌, ◌≤◌, length, ◌≡◌};
 use account::bytes::u32_at;
 use day::apply_day;
 use framing::{Frame, next_file};
-use libc::STDOUT_FILENO;
 use refusals::refusal_number;
 use rules::{Day, DayAnswer, MOST_BYTES};
+use std::io::Read;
 
 // The bytes of a day.
 const DAY_WIDTH: usize = 32;
@@ -34,63 +34,64 @@ fn day_at(bytes: &[u8]) -> Day
     }
 }
 
-fn print_number(n: u64) {
-    io::write_all(STDOUT_FILENO, b" ");
-    io::print_decimal(STDOUT_FILENO, n);
+fn print_number(rt: &impl Print, n: u64) {
+    let _ = rt.write_all(b" ");
+    let _ = rt.print(n);
 }
 
-fn print_answer(answer: DayAnswer) {
+fn print_answer(rt: &impl Print, answer: DayAnswer) {
     match answer {
         DayAnswer::Applied => {
-            io::write_all(STDOUT_FILENO, b"day\n");
+            let _ = rt.write_all(b"day\n");
         }
         DayAnswer::NotApplied(why, row) => {
-            io::write_all(STDOUT_FILENO, b"refused");
-            print_number(refusal_number(why) as u64);
-            print_number(row as u64);
-            io::write_all(STDOUT_FILENO, b"\n");
+            let _ = rt.write_all(b"refused");
+            print_number(rt, refusal_number(why) as u64);
+            print_number(rt, row as u64);
+            let _ = rt.write_all(b"\n");
         }
     }
 }
 
 // Applies the day at the front of the first n bytes to the file after it, and writes both.
-fn report(space: &mut [u8], n: usize)
+fn report(rt: &impl Print, space: &mut [u8], n: usize)
     requires { (32 ≤ n) × (n ≤ length space.old) }
     ensures { length space.new ≡ length space.old }
 {
     let d = day_at(space);
     let answer = apply_day(&mut space[DAY_WIDTH..n], d);
-    print_answer(answer);
-    io::write_all(STDOUT_FILENO, &space[DAY_WIDTH..n]);
-    io::write_all(STDOUT_FILENO, b"\n");
+    print_answer(rt, answer);
+    let _ = rt.write_all(&space[DAY_WIDTH..n]);
+    let _ = rt.write_all(b"\n");
 }
 
 // Reads and reports one day and its file; false where the input ends.
-fn report_next(space: &mut [u8]) -> bool
+fn report_next<R: Read>(rt: &impl Print, input: &mut R, space: &mut [u8]) -> bool
     ensures { length space.new ≡ length space.old }
 {
-    match next_file(space) {
+    match next_file(input, space) {
         Frame::File(n) => {
             if n < DAY_WIDTH {
-                io::write_all(STDOUT_FILENO, b"no day\n");
+                let _ = rt.write_all(b"no day\n");
                 return false;
             }
-            report(space, n);
+            report(rt, space, n);
             true
         }
         Frame::CutOff => {
-            io::write_all(STDOUT_FILENO, b"cut off\n");
+            let _ = rt.write_all(b"cut off\n");
             false
         }
         Frame::End => false,
     }
 }
 
-fn main() {
+fn main(rt: HostRuntime) {
+    let mut input = rt.stdin();
     let mut space = [0u8; DAY_WIDTH + MOST_BYTES + 1];
     let mut files: u32 = 0;
     while files < 1_000_000_000 {
-        if !report_next(&mut space) {
+        if !report_next(&rt, &mut input, &mut space) {
             return;
         }
         files += 1;

@@ -2,14 +2,14 @@
 // that a longer one is refused and not cut short. An answer that cannot be written is told of on standard error.
 #![tactic(auto)]
 
-use libc::STDERR_FILENO;
+use framing::read_full;
 use rules::MOST_BYTES;
 
-fn main() {
+fn main(rt: HostRuntime) {
     let mut space = [0u8; MOST_BYTES + 1];
-    let n = io::read_full(0, &mut space);
-    let printed = statement::print_margin(&space[..n]);
+    let n = read_full(&mut rt.stdin(), &mut space);
+    let printed = statement::print_margin(&mut rt.stdout(), &space[..n]);
     if !printed.whole {
-        io::write_all(STDERR_FILENO, b"margin: the answer could not be written\n");
+        let _ = rt.eprint("margin: the answer could not be written\n");
     }
 }

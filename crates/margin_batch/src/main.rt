@@ -7,43 +7,49 @@
 ghost use Rattle.std.specs.Prelude.{length, ◌≡◌};
 
 use framing::{Frame, next_file};
-use libc::{STDERR_FILENO, STDOUT_FILENO};
 use rules::MOST_BYTES;
+use std::io::{Read, Write};
 
 // Writes one file's margin and an empty line; false where that fails.
-fn report(file: &[u8]) -> bool {
-    let printed = statement::print_margin(file);
+fn report<W: Write>(rt: &impl Eprint, out: &mut W, file: &[u8]) -> bool {
+    let printed = statement::print_margin(out, file);
     if printed.whole {
-        if io::write_all(STDOUT_FILENO, b"\n") {
+        if out.write_all(b"\n").is_ok() {
             return true;
         }
     }
-    io::write_all(
-        STDERR_FILENO,
-        b"margin_batch: an answer could not be written; it and those of all later accounts are missing\n",
+    let _ = rt.eprint(
+        "margin_batch: an answer could not be written; it and those of all later accounts are missing\n",
     );
     false
 }
 
 // Reads and reports one file; false where the input ends or an answer cannot be written.
-fn report_next(space: &mut [u8]) -> bool
+fn report_next<R: Read, W: Write>(
+    rt: &impl Eprint,
+    input: &mut R,
+    out: &mut W,
+    space: &mut [u8],
+) -> bool
     ensures { length space.new ≡ length space.old }
 {
-    match next_file(space) {
-        Frame::File(n) => report(&space[..n]),
+    match next_file(input, space) {
+        Frame::File(n) => report(rt, out, &space[..n]),
         Frame::CutOff => {
-            io::write_all(STDOUT_FILENO, b"the last account is cut off\n");
+            let _ = out.write_all(b"the last account is cut off\n");
             false
         }
         Frame::End => false,
     }
 }
 
-fn main() {
+fn main(rt: HostRuntime) {
+    let mut input = rt.stdin();
+    let mut out = rt.stdout();
     let mut space = [0u8; MOST_BYTES + 1];
     let mut files: u32 = 0;
     while files < 1_000_000_000 {
-        if !report_next(&mut space) {
+        if !report_next(&rt, &mut input, &mut out, &mut space) {
             return;
         }
         files += 1;

@@ -1,11 +1,12 @@
 // A file's margin in words: `pair` and `left` lines, `premium` and `total`, or `refused` with number and row.
 #![tactic(auto)]
 
-ghost use Rattle.std.specs.Prelude.{length, ◌≡◌};
+ghost use Rattle.std.specs.Prelude.{IsTrue, length, ◌≡◌};
+ghost use Rattle.std.specs.Io.KnownBytes.{Appends};
 ghost use Rattle.rules.specs.Output.{margin_text};
 
 use crate::text::{MOST_TEXT, put_margin_text};
-use libc::STDOUT_FILENO;
+use std::io::Write;
 
 pub mod text;
 pub mod words;
@@ -17,12 +18,14 @@ pub struct Printed {
     pub whole: bool,
 }
 
-// Writes the margin of a file.
-pub fn print_margin(file: &[u8]) -> Printed
-    ensures { result.size ≡ length (margin_text file.now) }
+// Writes the margin of a file. Where it is known what the output holds, the margin's text is what it has more after all of
+// it was written.
+pub fn print_margin<W: Write>(out: &mut W, file: &[u8]) -> Printed
+    ensures size { result.size ≡ length (margin_text file.now) }
+    ensures written { IsTrue result.whole → Appends (W.contents out.old) (W.contents out.new) (margin_text file.now) }
 {
     let mut text = [0u8; MOST_TEXT];
     let size = put_margin_text(&mut text, file);
-    let whole = io::write_all(STDOUT_FILENO, &text[..size]);
+    let whole = out.write_all(&text[..size]).is_ok();
     Printed { size, whole }
 }
