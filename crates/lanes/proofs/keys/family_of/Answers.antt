@@ -1,6 +1,5 @@
 use Rattle.lanes.proofs.FamilyLaws.{family_most}
 use Rattle.lanes.proofs.MarkLaws.{family_is}
-use borrow.Author.Rules.{rules}
 use native.Mathlib.Omega.{arith}
 use Rattle.lanes.proofs.keys.family_of.Goals as goal
 

@@ -1,12 +1,10 @@
-use Prim.Native.Nat.{◌-◌, ◌≤◌}
 use Rattle.account.proofs.KnownRows.{read_series_below}
 use Rattle.lanes.proofs.LimiterLaws.{nearest_put}
-use Rattle.lanes.specs.Limiters.{Nearest, if_written, nearness}
+use Rattle.lanes.specs.Limiters.{if_written, nearness}
 use Rattle.rules.specs.File.{account_of}
 use Rattle.rules.specs.declared.Position.{Position}
-use borrow.Author.Rules.{rules}
-use lib.ListN.{length, length-set}
-use mathlib.Core.Path.{◌∙◌, ◌≡◌, ap, refl}
+use lib.ListN.{length-set}
+use mathlib.Core.Path.{◌∙◌, ap}
 use native.Mathlib.Omega.{arith}
 use Rattle.lanes.proofs.limiters.fill_nearest.Goals as goal
 

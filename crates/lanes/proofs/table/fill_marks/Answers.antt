@@ -1,11 +1,8 @@
-use Prim.Native.Nat.{◌-◌, ◌≤◌}
 use Rattle.account.proofs.KnownRows.{read_series_below}
 use Rattle.lanes.proofs.FileFacts.{in_range}
-use Rattle.lanes.proofs.TableLaws.{marked_more, marked_none}
-use Rattle.lanes.specs.Marks.{Marked}
+use Rattle.lanes.proofs.TableLaws.{marked_more}
 use Rattle.rules.specs.File.{account_of}
-use lib.ListN.{length, length-set}
-use mathlib.Core.Path.{◌≡◌, refl}
+use lib.ListN.{length-set}
 use native.Mathlib.Omega.{arith}
 use Rattle.lanes.proofs.table.fill_marks.Goals as goal
 

@@ -1,12 +1,8 @@
 use Prim.Native.Nat.{◌-◌, ◌≤◌}
-use Rattle.account.proofs.KnownRows.{read_series_below}
-use Rattle.lanes.proofs.FileFacts.{in_range}
-use Rattle.lanes.proofs.TableLaws.{marked_more, marked_none}
 use Rattle.lanes.specs.Marks.{Marked}
 use Rattle.rules.specs.File.{account_of}
-use lib.ListN.{length, length-set}
-use mathlib.Core.Path.{◌≡◌, refl}
-use native.Mathlib.Omega.{arith}
+use lib.ListN.{length}
+use mathlib.Core.Path.{◌≡◌}
 use Rattle.lanes.proofs.table.fill_marks.Given as goal
 
 abbrev pub invariant-loop-r : goal.invariant-loop-r

@@ -2,8 +2,6 @@ use Rattle.lanes.proofs.FileFacts.{ranged}
 use Rattle.lanes.proofs.LimiterLaws.{nearest_none}
 use Rattle.lanes.proofs.TableLaws.{row_most, table_filled}
 use Rattle.rules.specs.File.{account_of}
-use borrow.Author.Rules.{rules}
-use mathlib.Core.Path.{◌∙◌}
 use native.Mathlib.Omega.{arith}
 use Rattle.lanes.proofs.table.fill_table.Goals as goal
 

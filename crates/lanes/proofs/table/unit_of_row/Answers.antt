@@ -4,7 +4,6 @@ use Rattle.rules.specs.File.{account_of}
 use Rattle.rules.specs.OnePosition.{unit_margin}
 use Rattle.rules.specs.declared.Series.{Series}
 use Rattle.rules.specs.declared.Side.{Side}
-use borrow.Author.Rules.{rules}
 use mathlib.Core.Path.{◌∙◌, ap, sym}
 use Rattle.lanes.proofs.table.unit_of_row.Goals as goal
 
