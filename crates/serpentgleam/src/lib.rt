@@ -1,5 +1,5 @@
-// The operations offered outside, as a C program calls them. `rt staticlib serpentgleam` writes the archive that a client
-// links; the header is include/serpentgleam.h.
+// The operations offered outside, as a C program calls them. `library/prove.sh` writes the archive that a client links; the
+// header is include/serpentgleam.h.
 #![tactic(auto)]
 
 ghost use Rattle.std.specs.Prelude.{length, ◌≡◌};
