@@ -55,7 +55,7 @@ prefix:
 TESTED = test_header test_premiums test_module test_factors test_no_positions test_command \
     test_output test_text test_text_faults test_day test_day_command test_knocked_out \
     test_whole_reais test_instalments test_instalments_command test_take_apart test_blocked \
-    test_load test_load_command
+    test_load test_load_command test_long_expiries
 
 test: all
 	SERPENTGLEAM_LIBRARY='$(ARCHIVE)' bash clients/check.sh

@@ -8,7 +8,8 @@
  * call may be made from any thread, and calls on different threads do not affect each other. A call that takes a list needs
  * about 37 KB of stack or less, serpentgleam_pair about 31 KB; the one for factors needs about 8 KB, the others, a load too,
  * less than 1 KB. From version 0.9.0 on serpentgleam_margin and serpentgleam_amount_so_far need about 7 KB more than before,
- * for twice as many lines, and serpentgleam_pair and serpentgleam_take_apart less than 1 KB more.
+ * for twice as many lines, and serpentgleam_pair and serpentgleam_take_apart less than 1 KB more. (Of the archive that the
+ * toolchain before today's compiled.)
  *
  * It reads the bytes handed over during the call alone and keeps no pointer to them; the caller owns them before, during
  * and after. Two calls write to bytes, during the call alone: serpentgleam_day to those of its file, and serpentgleam_load
