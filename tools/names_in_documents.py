@@ -26,10 +26,13 @@ BY_PORT = """above-apart afterCall all-done all-left all-pass apart-parts bytes-
 OTHERS = {'dask-scheduler', 'dask-worker'}
 # Words of an account's text, and by themselves no names of crates/.
 WORDS_OF_THE_TEXT = {'`knocked-in`', '`knocked-out`'}
+# What a name of the older spelling has.
+OLDER = re.compile('-|[a-z0-9][A-Z]')
 SPAN = re.compile(r'`([^`\n]*(?:\n[^`\n]*)?)`')
 FENCED = re.compile(r'^```.*?^```', re.MULTILINE | re.DOTALL)
 WORD = re.compile(r'\w+')
 DASHED = re.compile(r'\w+(?:-\w+)+')
+NAME = re.compile(r"[A-Za-z]\w*[_-][\w-]*'?")
 QUALIFIED = re.compile(r'([A-Z]\w*)\.([^\s(){}.,]+)')
 
 
@@ -82,7 +85,7 @@ def respelled(text, names):
     def one(span):
         if span[0] in WORDS_OF_THE_TEXT or ' unless ' in span[0]:
             return span[0]
-        return TOKEN.sub(lambda word: names.get(word[0], word[0]), span[0])
+        return TOKEN.sub(lambda word: names.get(word[0], word[0]) if OLDER.search(word[0]) else word[0], span[0])
 
     return SPAN.sub(one, text)
 
@@ -104,7 +107,7 @@ def main(arguments):
                 gone = [f'{module}.{name}' for module, name in QUALIFIED.findall(span[1])
                         if module in modules and name not in modules[module] and name not in ('antt', 'md')]
                 gone += [word for word in TOKEN.findall(span[1])
-                         if re.fullmatch(r"[A-Za-z]\w*[_-][\w-]*'?", word) and word not in words | OTHERS and not word.startswith('rattle-kit-')]
+                         if NAME.fullmatch(word) and word not in words | OTHERS and not word.startswith('rattle-kit-')]
                 for name in gone:
                     print(f'{path}: {name}, in `{" ".join(span[1].split())}`')
                     missing += 1
