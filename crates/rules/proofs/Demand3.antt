@@ -85,22 +85,30 @@ module _ (b : List ℕ) (a : Account) (e : meaning b ≡ accepted a) where
       subst NoExceptedPut (sym known.1) (none_excepted b known.0 (subst LowFactors known.1 factors))
 
   -- Where the proviso holds, each written row is covered by its unit margin,
-  pub rows_covered : NoExceptedPut a → RowsCovered a
-  rows_covered none =
+  pub rows_covered_long : NoExceptedPut a → RowsCovered a
+  rows_covered_long none =
       let known = accepted_within b a e in
       subst RowsCovered (sym known.1) (rows_within b known.0 (subst NoExceptedPut known.1 none))
 
   -- and each pair, whatever fb is, by its spread.
-  pub pairs_covered : PairsCovered a
-  pairs_covered =
+  pub pairs_covered_long : PairsCovered a
+  pairs_covered_long =
       let known = accepted_within b a e in
       subst PairsCovered (sym known.1) (pairs_within b known.0)
+
+-- Each written row is covered by its unit margin, and each pair by its spread.
+module _ (b : List ℕ) (a : Account) (e : meaning b ≡ accepted a) (factors : LowFactors a) where
+  pub rows_covered : RowsCovered a
+  rows_covered = rows_covered_long b a e (low_factors_enough b a e factors)
+
+  pub pairs_covered : PairsCovered a
+  pairs_covered = pairs_covered_long b a e
 
 -- Document 02 [11]: "We want the total shown sufficient for every accepted account with any fb, provided that it has no written
 -- put with an up-and-in barrier not yet knocked in within a series whose fb is above 1,000,000." That the proviso is needed is
 -- `LongExpiryTables.proviso_needed`.
 pub cover_long : (b : List ℕ) → CoverLongDemand b
-cover_long b a e none = AccountCover.cover a (blocked_fits b a e) (rows_covered b a e none) (pairs_covered b a e)
+cover_long b a e none = AccountCover.cover a (blocked_fits b a e) (rows_covered_long b a e none) (pairs_covered_long b a e)
 
 -- "The cover, where every fb is at most 1,000,000: for every choice of one path for each series, total × 1,000,000 plus
 -- what the pairs bring in is at least what the written rows pay out. All rows of a series follow its path. A written row

@@ -9,7 +9,7 @@ use lib.ListN.{drop, length, take, length-append, length-drop}
 use lib.Seq.{drop-append-add, drop-drop, take_at}
 use Rattle.rules.proofs.AccountCover.{PairsCovered, RowsCovered, covered_after}
 use Rattle.rules.proofs.BlockedRows.{BlockedFits, blocked_fits}
-use Rattle.rules.proofs.Demand3.{low_factors_enough, pairs_covered, rows_covered}
+use Rattle.rules.proofs.Demand3.{low_factors_enough, pairs_covered_long, rows_covered_long}
 use Rattle.rules.proofs.InstalmentAnswers.{FirstPairs, first_length, pair_goes, so_far_goes, so_far_only}
 use Rattle.rules.proofs.InstalmentLaws.{after_same, first_after, first_count, pairs_fewer, total_all, total_same}
 use Rattle.rules.proofs.InstalmentLists.{list_is}
@@ -168,7 +168,7 @@ half_paired_long b a e out count x q none path each =
     let known = so_far_only b a e out count x q in
     omega (
       arith,
-      first_covered a count (blocked_fits b a e) (rows_covered b a e none) (pairs_covered b a e) path each,
+      first_covered a count (blocked_fits b a e) (rows_covered_long b a e none) (pairs_covered_long b a e) path each,
       ap (sum_over (line_brings_in a path)) known.1.lines_are,
       known.2,
     )
