@@ -39,6 +39,7 @@ fn write_day(file: &mut [u8], l: Layout, d: Day)
 }
 
 // A day for an accepted file: refusals 16 and 17, then what it writes.
+#[tactic(auto, using(crate::proofs::Refused::absent_answer, crate::proofs::Refused::absent_bytes))]
 fn day_of_accepted(file: &mut [u8], l: Layout, d: Day) -> DayAnswer
     requires { file_read file.old ≡ Accepted l }
     ensures answer { result ≡ day_answer file.old d }
