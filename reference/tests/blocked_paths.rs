@@ -1,8 +1,8 @@
 //! What the brute force says of blocked contracts (document 02 [9]).
 
-use reference::account::Account;
-use reference::brute_force::{check, reference_claim, Claim};
-use reference::draft::{file, held, written, PositionDraft, SeriesDraft, CALL};
+use reference::account::{Account, Barrier};
+use reference::brute_force::{check, cover_promised, reference_claim, Claim};
+use reference::draft::{file, held, written, PositionDraft, SeriesDraft, CALL, PUT};
 use reference::lines::{margin, Left, Margin};
 use reference::pairing::Pair;
 use reference::random::Random;
@@ -86,6 +86,34 @@ fn a_blocked_contract_in_a_pair_is_found_with_any_factor() {
     let mut claim = reference_claim(&account);
     claim.half_paired = vec![pair_of(&account, 2, 3_000).margin];
     assert!(check(&account, &claim, 4).unwrap_err().starts_with("blocked"));
+}
+
+/// With fb above 1,000,000, where the cover is promised and where it is not, and
+/// before it is looked at (document 02 [11]).
+#[test]
+fn a_blocked_contract_in_a_pair_is_found_at_long_expiries() {
+    let with_long_expiry =
+        |type_byte: u8| SeriesDraft { fb: 1_000_001, ..SeriesDraft::checked(type_byte) };
+    let of_calls = two_rows(with_long_expiry(CALL));
+    let mut of_puts = two_rows(with_long_expiry(PUT));
+    for position in &mut of_puts.positions {
+        position.barrier = Barrier::UpAndIn(3500);
+    }
+    for (account, promised) in [(of_calls, true), (of_puts, false)] {
+        assert_eq!(cover_promised(&account), promised);
+        assert!(check(&account, &pair_of(&account, 1, 3_000), 4).is_ok());
+        for total in [3_000, 0] {
+            let violation = check(&account, &pair_of(&account, 2, total), 4).unwrap_err();
+            assert!(violation.starts_with("blocked"), "{violation}");
+        }
+        // Of the pair that is allowed the cover is looked at.
+        let found = check(&account, &pair_of(&account, 1, 0), 4).err();
+        assert_eq!(found.is_some_and(|words| words.starts_with("the cover")), promised);
+        // And after a number of pairs below all.
+        let mut claim = reference_claim(&account);
+        claim.half_paired = vec![pair_of(&account, 2, 3_000).margin];
+        assert!(check(&account, &claim, 4).unwrap_err().starts_with("blocked"));
+    }
 }
 
 /// Blocked contracts are no contracts left for a pair, and others are.
