@@ -68,7 +68,9 @@ def main():
         with open(path, encoding="utf-8") as file:
             text = file.read()
         mark = "--" if path.endswith(".antt") else "//"
-        new = respelled(text, mark, names, os.path.basename(path) in PROOFS_OF_FUNCTIONS)
+        folder, name = os.path.split(path)
+        of_function = name in PROOFS_OF_FUNCTIONS and os.path.basename(folder) != "proofs"
+        new = respelled(text, mark, names, of_function)
         if new != text:
             changed += 1
             with open(path, "w", encoding="utf-8") as file:

@@ -22,7 +22,7 @@ use Rattle.lines_and_total.specs.Listing.{AccountListed, Added, ContractsTo, Pai
 use Rattle.lines_and_total.specs.Settled.{Settled}
 use Rattle.lines_and_total.specs.declared.Listed.{Listed}
 use Rattle.rules.specs.Output.{premiums_for}
-use Rattle.rules.proofs.Answers.{answer_read_lem, given-read}
+use Rattle.rules.proofs.Answers.{answer_read_lem, given_read}
 use Rattle.rules.proofs.Counts.{made_below}
 use Rattle.rules.proofs.LineLaws.{length-pair_lines, line_count_lem, lines_are, sum_pairs}
 use Rattle.rules.proofs.MayPair.{apart}
@@ -146,7 +146,7 @@ module _ (b : List ℕ) (room : ℕ) (numbers : List ℕ) (en : length numbers �
   settled_refused w i e =
       record {
         answer_is = sym (answer_read_lem b room (Refused w i) e);
-        lines_are = sym (given-read b room (Refused w i) e);
+        lines_are = sym (given_read b room (Refused w i) e);
         count_most = omega arith;
         count_small = omega arith;
         numbers_length = en;
@@ -160,7 +160,7 @@ module _ (b : List ℕ) (room : ℕ) (numbers : List ℕ) (en : length numbers �
         let t = lt-ltb room (entries_for l.positions) h in
         record {
           answer_is = rw (answer_read_lem b room (Accepted l) e, t);
-          lines_are = rw (given-read b room (Accepted l) e, t);
+          lines_are = rw (given_read b room (Accepted l) e, t);
           count_most = omega arith;
           count_small = omega arith;
           numbers_length = en;
@@ -175,7 +175,7 @@ module _ (b : List ℕ) (room : ℕ) (numbers : List ℕ) (en : length numbers �
         let few : length (lines a) ≤ 2 * l.positions - 1 = rw (lines_are a) (line_count_lem a l.positions) in
         record {
           answer_is = rw (answer_read_lem b room (Accepted l) e, s) (ap₂ Total f.count_is (ap₂ (λ x y. x + y) f.total_is en'));
-          lines_are = rw (given-read b room (Accepted l) e, s) f.lines_are;
+          lines_are = rw (given_read b room (Accepted l) e, s) f.lines_are;
           count_most = omega (arith, f.count_is, few);
           count_small = omega (arith, f.count_is, few, (known b l e).placed.positions_most);
           numbers_length = en;

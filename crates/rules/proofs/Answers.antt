@@ -31,25 +31,25 @@ use Rattle.rules.specs.declared.Refusal.TheVariants.{FileSize, Trailer, Distance
 
 -- Every refusal's number is 1 to 20, so that 0 and amounts are never taken for one; none is 3, which is withdrawn, and none
 -- is 15, which no request gives.
-pub number-range : (w : Refusal) → (1 ≤ number w) × (number w ≤ 20) × (number w ≡ 3 → ⊥) × (number w ≡ 15 → ⊥)
-number-range FileSize = (omega arith, omega arith, λ (q : number FileSize ≡ 3). omega arith, λ (q : number FileSize ≡ 15). omega arith)
-number-range Trailer = (omega arith, omega arith, λ (q : number Trailer ≡ 3). omega arith, λ (q : number Trailer ≡ 15). omega arith)
-number-range Distance = (omega arith, omega arith, λ (q : number Distance ≡ 3). omega arith, λ (q : number Distance ≡ 15). omega arith)
-number-range SeriesRange = (omega arith, omega arith, λ (q : number SeriesRange ≡ 3). omega arith, λ (q : number SeriesRange ≡ 15). omega arith)
-number-range SeriesType = (omega arith, omega arith, λ (q : number SeriesType ≡ 3). omega arith, λ (q : number SeriesType ≡ 15). omega arith)
-number-range PositionTerms = (omega arith, omega arith, λ (q : number PositionTerms ≡ 3). omega arith, λ (q : number PositionTerms ≡ 15). omega arith)
-number-range PositionRange = (omega arith, omega arith, λ (q : number PositionRange ≡ 3). omega arith, λ (q : number PositionRange ≡ 15). omega arith)
-number-range LimiterPrice = (omega arith, omega arith, λ (q : number LimiterPrice ≡ 3). omega arith, λ (q : number LimiterPrice ≡ 15). omega arith)
-number-range BarrierPrice = (omega arith, omega arith, λ (q : number BarrierPrice ≡ 3). omega arith, λ (q : number BarrierPrice ≡ 15). omega arith)
-number-range BarrierSide = (omega arith, omega arith, λ (q : number BarrierSide ≡ 3). omega arith, λ (q : number BarrierSide ≡ 15). omega arith)
-number-range ListTooShort = (omega arith, omega arith, λ (q : number ListTooShort ≡ 3). omega arith, λ (q : number ListTooShort ≡ 15). omega arith)
-number-range RowAskedFor = (omega arith, omega arith, λ (q : number RowAskedFor ≡ 3). omega arith, λ (q : number RowAskedFor ≡ 15). omega arith)
-number-range FactorsAskedFor = (omega arith, omega arith, λ (q : number FactorsAskedFor ≡ 3). omega arith, λ (q : number FactorsAskedFor ≡ 15). omega arith)
-number-range SeriesAskedFor = (omega arith, omega arith, λ (q : number SeriesAskedFor ≡ 3). omega arith, λ (q : number SeriesAskedFor ≡ 15). omega arith)
-number-range DayPrices = (omega arith, omega arith, λ (q : number DayPrices ≡ 3). omega arith, λ (q : number DayPrices ≡ 15). omega arith)
-number-range NotFirstPairs = (omega arith, omega arith, λ (q : number NotFirstPairs ≡ 3). omega arith, λ (q : number NotFirstPairs ≡ 15). omega arith)
-number-range AboveCount = (omega arith, omega arith, λ (q : number AboveCount ≡ 3). omega arith, λ (q : number AboveCount ≡ 15). omega arith)
-number-range LoadAskedFor = (omega arith, omega arith, λ (q : number LoadAskedFor ≡ 3). omega arith, λ (q : number LoadAskedFor ≡ 15). omega arith)
+pub number_range : (w : Refusal) → (1 ≤ number w) × (number w ≤ 20) × (number w ≡ 3 → ⊥) × (number w ≡ 15 → ⊥)
+number_range FileSize = (omega arith, omega arith, λ (q : number FileSize ≡ 3). omega arith, λ (q : number FileSize ≡ 15). omega arith)
+number_range Trailer = (omega arith, omega arith, λ (q : number Trailer ≡ 3). omega arith, λ (q : number Trailer ≡ 15). omega arith)
+number_range Distance = (omega arith, omega arith, λ (q : number Distance ≡ 3). omega arith, λ (q : number Distance ≡ 15). omega arith)
+number_range SeriesRange = (omega arith, omega arith, λ (q : number SeriesRange ≡ 3). omega arith, λ (q : number SeriesRange ≡ 15). omega arith)
+number_range SeriesType = (omega arith, omega arith, λ (q : number SeriesType ≡ 3). omega arith, λ (q : number SeriesType ≡ 15). omega arith)
+number_range PositionTerms = (omega arith, omega arith, λ (q : number PositionTerms ≡ 3). omega arith, λ (q : number PositionTerms ≡ 15). omega arith)
+number_range PositionRange = (omega arith, omega arith, λ (q : number PositionRange ≡ 3). omega arith, λ (q : number PositionRange ≡ 15). omega arith)
+number_range LimiterPrice = (omega arith, omega arith, λ (q : number LimiterPrice ≡ 3). omega arith, λ (q : number LimiterPrice ≡ 15). omega arith)
+number_range BarrierPrice = (omega arith, omega arith, λ (q : number BarrierPrice ≡ 3). omega arith, λ (q : number BarrierPrice ≡ 15). omega arith)
+number_range BarrierSide = (omega arith, omega arith, λ (q : number BarrierSide ≡ 3). omega arith, λ (q : number BarrierSide ≡ 15). omega arith)
+number_range ListTooShort = (omega arith, omega arith, λ (q : number ListTooShort ≡ 3). omega arith, λ (q : number ListTooShort ≡ 15). omega arith)
+number_range RowAskedFor = (omega arith, omega arith, λ (q : number RowAskedFor ≡ 3). omega arith, λ (q : number RowAskedFor ≡ 15). omega arith)
+number_range FactorsAskedFor = (omega arith, omega arith, λ (q : number FactorsAskedFor ≡ 3). omega arith, λ (q : number FactorsAskedFor ≡ 15). omega arith)
+number_range SeriesAskedFor = (omega arith, omega arith, λ (q : number SeriesAskedFor ≡ 3). omega arith, λ (q : number SeriesAskedFor ≡ 15). omega arith)
+number_range DayPrices = (omega arith, omega arith, λ (q : number DayPrices ≡ 3). omega arith, λ (q : number DayPrices ≡ 15). omega arith)
+number_range NotFirstPairs = (omega arith, omega arith, λ (q : number NotFirstPairs ≡ 3). omega arith, λ (q : number NotFirstPairs ≡ 15). omega arith)
+number_range AboveCount = (omega arith, omega arith, λ (q : number AboveCount ≡ 3). omega arith, λ (q : number AboveCount ≡ 15). omega arith)
+number_range LoadAskedFor = (omega arith, omega arith, λ (q : number LoadAskedFor ≡ 3). omega arith, λ (q : number LoadAskedFor ≡ 15). omega arith)
 
 module _ (b : List ℕ) where
   -- The answer, and the lines given, by the reading.
@@ -57,17 +57,17 @@ module _ (b : List ℕ) where
   unfolding margin_answer
   answer_read_lem n x r = ap (margin_for_list b n) r
 
-  pub given-read : (n : ℕ) (x : FileRead) → file_read b ≡ x → lines_given b n ≡ lines_for b x (margin_for_list b n x)
+  pub given_read : (n : ℕ) (x : FileRead) → file_read b ≡ x → lines_given b n ≡ lines_for b x (margin_for_list b n x)
   unfolding lines_given margin_answer
-  given-read n x r = ap (λ (y : FileRead). lines_for b y (margin_for_list b n y)) r
+  given_read n x r = ap (λ (y : FileRead). lines_for b y (margin_for_list b n y)) r
 
   -- The reading of a file that is accepted or refused.
-  pub accepted-read : (a : Account) → meaning b ≡ accepted a → (file_read b ≡ Accepted (layout b)) × (a ≡ account_of b (layout b))
-  accepted-read a e = let k = accepted_within b a e in (within_read b k.0, k.1)
+  pub accepted_read : (a : Account) → meaning b ≡ accepted a → (file_read b ≡ Accepted (layout b)) × (a ≡ account_of b (layout b))
+  accepted_read a e = let k = accepted_within b a e in (within_read b k.0, k.1)
 
-  pub refused-read : (k row : ℕ) → meaning b ≡ refused k row → (w : Refusal) × (number w ≡ k) × (file_read b ≡ Refused w row)
+  pub refused_read : (k row : ℕ) → meaning b ≡ refused k row → (w : Refusal) × (number w ≡ k) × (file_read b ≡ Refused w row)
   unfolding meaning
-  refused-read k row e = go (file_read b) refl
+  refused_read k row e = go (file_read b) refl
     where
       go : (x : FileRead) → file_read b ≡ x → (w : Refusal) × (number w ≡ k) × (file_read b ≡ Refused w row)
       go (Accepted l) q =
@@ -81,38 +81,38 @@ module _ (b : List ℕ) where
           (w, p, q ∙ ap (Refused w) r)
 
   -- An accepted file and a list of at least 2 × p entries: the line count and the total.
-  pub margin-accepted : (a : Account) → meaning b ≡ accepted a → (n : ℕ) → entries_for a.positions ≤ n → margin_answer b n ≡ Total (length (lines a)) (total a)
-  margin-accepted a e n =
-      let k = accepted-read a e in
+  pub margin_accepted : (a : Account) → meaning b ≡ accepted a → (n : ℕ) → entries_for a.positions ≤ n → margin_answer b n ≡ Total (length (lines a)) (total a)
+  margin_accepted a e n =
+      let k = accepted_read a e in
       subst (λ (x : Account). entries_for x.positions ≤ n → margin_answer b n ≡ Total (length (lines x)) (total x)) (sym k.1)
       (λ h. rw (answer_read_lem n (Accepted (layout b)) k.0, le-ltb n (entries_for (layout b).positions) h))
 
   -- A list of `most_lines` entries is never too short.
-  pub margin-most : (a : Account) → meaning b ≡ accepted a → margin_answer b most_lines ≡ Total (length (lines a)) (total a)
+  pub margin_most : (a : Account) → meaning b ≡ accepted a → margin_answer b most_lines ≡ Total (length (lines a)) (total a)
   unfolding layout
-  margin-most a e =
+  margin_most a e =
       let k = accepted_within b a e in
       let few : entries_for (position_count b) ≤ most_lines = omega (arith, k.0.trailer.positions_most) in
-      margin-accepted a e most_lines (subst (λ (x : Account). entries_for x.positions ≤ most_lines) (sym k.1) few)
+      margin_accepted a e most_lines (subst (λ (x : Account). entries_for x.positions ≤ most_lines) (sym k.1) few)
 
   -- Demand 1 of the operation: "A file that keeps the limits of document 01 is accepted and gets its lines and total,
   -- whatever its rows hold", in a list of at least 2 × p entries.
-  pub margin-within : FileWithin b → (n : ℕ) → entries_for (position_count b) ≤ n
+  pub margin_within : FileWithin b → (n : ℕ) → entries_for (position_count b) ≤ n
       → margin_answer b n ≡ Total (length (lines (account_of b (layout b)))) (total (account_of b (layout b)))
   unfolding layout
-  margin-within h n = margin-accepted (account_of b (layout b)) (within_accepted b h) n
+  margin_within h n = margin_accepted (account_of b (layout b)) (within_accepted b h) n
 
   -- An accepted file and a shorter list: refusal 12, row 0.
-  pub margin-short : (a : Account) → meaning b ≡ accepted a → (n : ℕ) → n < entries_for a.positions → margin_answer b n ≡ NoTotal ListTooShort 0
-  margin-short a e n =
-      let k = accepted-read a e in
+  pub margin_short : (a : Account) → meaning b ≡ accepted a → (n : ℕ) → n < entries_for a.positions → margin_answer b n ≡ NoTotal ListTooShort 0
+  margin_short a e n =
+      let k = accepted_read a e in
       subst (λ (x : Account). n < entries_for x.positions → margin_answer b n ≡ NoTotal ListTooShort 0) (sym k.1)
       (λ h. rw (answer_read_lem n (Accepted (layout b)) k.0, lt-ltb n (entries_for (layout b).positions) h))
 
   -- A refused file: its number and row, whatever the list.
-  pub margin-refused : (k row : ℕ) → meaning b ≡ refused k row → (n : ℕ) → (w : Refusal) × (number w ≡ k) × (margin_answer b n ≡ NoTotal w row)
-  margin-refused k row e n =
-      let r = refused-read k row e in
+  pub margin_refused : (k row : ℕ) → meaning b ≡ refused k row → (n : ℕ) → (w : Refusal) × (number w ≡ k) × (margin_answer b n ≡ NoTotal w row)
+  margin_refused k row e n =
+      let r = refused_read k row e in
       (r.0, r.1, answer_read_lem n (Refused r.0 row) r.2)
 
   -- The other way round: a refusal is the reading's, or the list was too short, with number 12 and row 0.
@@ -140,17 +140,17 @@ module _ (b : List ℕ) where
           by_room false t m = let z : ◌≡◌ {A = ℕ} 0 1 = cc in absurd (omega arith)
 
   -- So the number that a margin is refused with is 12 at most, whatever numbers other calls give.
-  pub margin-number : (n : ℕ) (w : Refusal) (row : ℕ) → margin_answer b n ≡ NoTotal w row → number w ≤ 12
-  margin-number n w row e = go (refusal_is n w row e)
+  pub margin_number : (n : ℕ) (w : Refusal) (row : ℕ) → margin_answer b n ≡ NoTotal w row → number w ≤ 12
+  margin_number n w row e = go (refusal_is n w row e)
     where
       go : (meaning b ≡ refused (number w) row) ⊎ ((a : Account) × (meaning b ≡ accepted a) × (n < entries_for a.positions) × (number w ≡ 12) × (row ≡ 0)) → number w ≤ 12
       go (inl f) = omega (arith, file_number b (number w) row f)
       go (inr (a, f, l, q, z)) = omega arith
 
   -- "Every lent list keeps its content": after a refusal the list is what it was, whatever it held.
-  pub refusal-keeps : (out : List Line) (w : Refusal) (row : ℕ) → margin_answer b (length out) ≡ NoTotal w row → list_after b out ≡ out
+  pub refusal_keeps : (out : List Line) (w : Refusal) (row : ℕ) → margin_answer b (length out) ≡ NoTotal w row → list_after b out ≡ out
   unfolding list_after lines_given
-  refusal-keeps out w row e = rw e
+  refusal_keeps out w row e = rw e
 
   -- An answer with lines: the account is accepted, the list afterwards is its lines and then the old entries from the
   -- count on, the count is at most 2 × p - 1 (0 where p is 0), and the list is as long as it was.
@@ -164,23 +164,23 @@ module _ (b : List ℕ) where
     pub length-is : length (list_after b out) ≡ length out
 
   -- Where the operation answers lines, the list has at least 2 × p entries.
-  pub room-enough : (a : Account) → meaning b ≡ accepted a → (n count sum : ℕ) → margin_answer b n ≡ Total count sum → entries_for a.positions ≤ n
-  room-enough a e n count sum h = by_room (ltb n (entries_for a.positions)) refl
+  pub room_enough : (a : Account) → meaning b ≡ accepted a → (n count sum : ℕ) → margin_answer b n ≡ Total count sum → entries_for a.positions ≤ n
+  room_enough a e n count sum h = by_room (ltb n (entries_for a.positions)) refl
     where
       by_room : (t : Bool) → ltb n (entries_for a.positions) ≡ t → entries_for a.positions ≤ n
       by_room false t = ltb-false n (entries_for a.positions) t
       by_room true t =
-          let m = sym (margin-short a e n (ltb-true n (entries_for a.positions) t)) ∙ h in
+          let m = sym (margin_short a e n (ltb-true n (entries_for a.positions) t)) ∙ h in
           let z : ◌≡◌ {A = ℕ} 0 1 = cc in
           absurd (omega arith)
 
-  pub lines-answered : (out : List Line) (count sum : ℕ) → margin_answer b (length out) ≡ Total count sum → LinesAnswered out count sum
+  pub lines_answered : (out : List Line) (count sum : ℕ) → margin_answer b (length out) ≡ Total count sum → LinesAnswered out count sum
   unfolding list_after
-  lines-answered out count sum e =
+  lines_answered out count sum e =
       let k = answered b (length out) count sum e in
       let a = k.0 in
       let fits = line_count_lem a a.positions in
-      let long = room-enough a k.1 (length out) count sum e in
+      let long = room_enough a k.1 (length out) count sum e in
       let is : list_after b out ≡ lines a ++ drop count out =
       ap (λ (l : List Line). l ++ drop (length l) out) k.4 ∙ ap (λ (n : ℕ). lines a ++ drop n out) (sym k.2) in
       record {
@@ -196,20 +196,20 @@ module _ (b : List ℕ) where
       }
 
   -- The call for one position of an accepted file: a number of 0 or more, the row's amount.
-  pub amount-accepted : (a : Account) → meaning b ≡ accepted a → (row : ℕ) → row < a.positions
+  pub amount_accepted_lem : (a : Account) → meaning b ≡ accepted a → (row : ℕ) → row < a.positions
       → signed_answer (amount_answer b row) ≡ pos (position_amount a row)
   unfolding amount_answer
-  amount-accepted a e row =
-      let k = accepted-read a e in
+  amount_accepted_lem a e row =
+      let k = accepted_read a e in
       subst (λ (x : Account). row < x.positions → signed_answer (amount_answer b row) ≡ pos (position_amount x row)) (sym k.1)
       (λ h. rw (k.0, lt-leb (layout b).positions row h))
 
   -- An accepted file without that row: −13.
-  pub amount-no-row : (a : Account) → meaning b ≡ accepted a → (row : ℕ) → a.positions ≤ row
+  pub amount_no_row : (a : Account) → meaning b ≡ accepted a → (row : ℕ) → a.positions ≤ row
       → signed_answer (amount_answer b row) ≡ neg_ℤ (pos 13)
   unfolding amount_answer
-  amount-no-row a e row =
-      let k = accepted-read a e in
+  amount_no_row a e row =
+      let k = accepted_read a e in
       subst (λ (x : Account). x.positions ≤ row → signed_answer (amount_answer b row) ≡ neg_ℤ (pos 13)) (sym k.1)
       (λ h. rw (k.0, le-leb (layout b).positions row h))
 
@@ -217,18 +217,18 @@ module _ (b : List ℕ) where
   pub amount_refused : (k i : ℕ) → meaning b ≡ refused k i → (row : ℕ) → signed_answer (amount_answer b row) ≡ neg_ℤ (pos k)
   unfolding amount_answer
   amount_refused k i e row =
-      let r = refused-read k i e in
+      let r = refused_read k i e in
       ap (λ (x : FileRead). signed_answer (amount_for_row b row x)) r.2 ∙ ap (λ (x : ℕ). neg_ℤ (pos x)) r.1
 
   -- The premiums of an accepted file are its account's; a refused file gives its number and row.
-  pub premium-accepted : (a : Account) → meaning b ≡ accepted a → premium_answer b ≡ Amount (premiums a)
+  pub premium_accepted : (a : Account) → meaning b ≡ accepted a → premium_answer b ≡ Amount (premiums a)
   unfolding premium_answer
-  premium-accepted a e =
-      let k = accepted-read a e in
+  premium_accepted a e =
+      let k = accepted_read a e in
       rw (k.0, k.1)
 
-  pub premium-refused : (k i : ℕ) → meaning b ≡ refused k i → (w : Refusal) × (number w ≡ k) × (premium_answer b ≡ NoAmount w i)
+  pub premium_refused : (k i : ℕ) → meaning b ≡ refused k i → (w : Refusal) × (number w ≡ k) × (premium_answer b ≡ NoAmount w i)
   unfolding premium_answer
-  premium-refused k i e =
-      let r = refused-read k i e in
+  premium_refused k i e =
+      let r = refused_read k i e in
       (r.0, r.1, ap (premiums_of b) r.2)

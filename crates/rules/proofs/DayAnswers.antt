@@ -9,7 +9,7 @@ use mathlib.Core.Path.{◌≡◌, refl, sym, ◌∙◌, ap, ap₂, subst}
 use native.Mathlib.Omega.{arith}
 use borrow.Author.Tests.{le-leb, le-ltb, leb-false, leb-true, lt-leb}
 use lib.Dec.{leb, ltb}
-use Rattle.rules.proofs.Answers.{accepted-read, refused-read}
+use Rattle.rules.proofs.Answers.{accepted_read, refused_read}
 use Rattle.rules.proofs.Chain.{five_fail, in_range}
 use Rattle.rules.proofs.DayPromises.{applied_clean, day_applied, file_refused, not_applied, prices_refused, series_refused}
 use Rattle.rules.specs.Day.{DayWithin, day_answer, day_written, wrong_day}
@@ -37,16 +37,16 @@ module _ (b : List ℕ) (d : Day) where
   -- "The reading's refusals first"
   pub day_of_refused : (n row : ℕ) → meaning b ≡ refused n row → (w : Refusal) × (number w ≡ n) × (day_answer b d ≡ NotApplied w row)
   day_of_refused n row e =
-      let r = refused-read b n row e in
+      let r = refused_read b n row e in
       (r.0, r.1, sym (file_refused b d b r.0 row r.2 refl).0)
 
   -- An accepted file, with the layout that its account was read by.
   module _ (a : Account) (e : meaning b ≡ accepted a) where
     read : file_read b ≡ Accepted (layout b)
-    read = (accepted-read b a e).0
+    read = (accepted_read b a e).0
 
     count : a.series ≡ (layout b).series
-    count = ap (λ (x : Account). x.series) (accepted-read b a e).1
+    count = ap (λ (x : Account). x.series) (accepted_read b a e).1
 
     there : d.series < a.series → leb (layout b).series d.series ≡ false
     there h = lt-leb (layout b).series d.series (omega (arith, count))

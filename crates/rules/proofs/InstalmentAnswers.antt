@@ -12,7 +12,7 @@ use borrow.Author.Tests.{le-ltb, ltb-false, not-false}
 use lib.Dec.{ltb}
 use lib.ListN.{length, take, length-take}
 use lib.Seq.{take-add}
-use Rattle.rules.proofs.Answers.{accepted-read, refused-read}
+use Rattle.rules.proofs.Answers.{accepted_read, refused_read}
 use Rattle.rules.proofs.FileNumbers.{file_number}
 use Rattle.rules.proofs.InstalmentLaws.{amount_read, begins_take, fault_18, fault_none, fault_short, pair_read, pairs_fewer, take_begins, total_all}
 use Rattle.rules.proofs.LineLaws.{length-pair_lines, pair_lines-append}
@@ -103,14 +103,14 @@ module _ (b : List ℕ) (a : Account) (e : meaning b ≡ accepted a) (out : List
   pair_by : (allowance : ℕ) (x : Fault) → instalment_fault a out count ≡ x
       → pair_answer b out count allowance ≡ paired_unless x (made_of a count allowance)
   pair_by allowance x q =
-      let k = accepted-read b a e in
+      let k = accepted_read b a e in
       pair_read b out count allowance (Accepted (layout b)) k.0
       ∙ ap (λ (y : Account). paired_unless (instalment_fault y out count) (made_of y count allowance)) (sym k.1)
       ∙ ap (λ (y : Fault). paired_unless y (made_of a count allowance)) q
 
   so_far_by : (x : Fault) → instalment_fault a out count ≡ x → amount_so_far b out count ≡ amount_unless x (total_after a count)
   so_far_by x q =
-      let k = accepted-read b a e in
+      let k = accepted_read b a e in
       amount_read b out count (Accepted (layout b)) k.0
       ∙ ap (λ (y : Account). amount_unless (instalment_fault y out count) (total_after y count)) (sym k.1)
       ∙ ap (λ (y : Fault). amount_unless y (total_after a count)) q
@@ -191,13 +191,13 @@ module _ (b : List ℕ) (out : List Line) (count : ℕ) where
   pub pair_refused : (k row : ℕ) → meaning b ≡ refused k row → (allowance : ℕ)
       → (w : Refusal) × (number w ≡ k) × (pair_answer b out count allowance ≡ NotPaired w row)
   pair_refused k row e allowance =
-      let r = refused-read b k row e in
+      let r = refused_read b k row e in
       (r.0, r.1, pair_read b out count allowance (Refused r.0 row) r.2)
 
   pub so_far_refused : (k row : ℕ) → meaning b ≡ refused k row
       → (w : Refusal) × (number w ≡ k) × (amount_so_far b out count ≡ NoAmount w row)
   so_far_refused k row e =
-      let r = refused-read b k row e in
+      let r = refused_read b k row e in
       (r.0, r.1, amount_read b out count (Refused r.0 row) r.2)
 
   -- The two calls refuse alike.

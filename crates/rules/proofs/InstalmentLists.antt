@@ -8,7 +8,7 @@ use native.Mathlib.Nat.{add-zero}
 use native.Mathlib.Omega.{arith}
 use lib.ListN.{drop, length, take, length-append, length-drop, length-take, take-append-drop}
 use lib.Seq.{drop_at, take_at}
-use Rattle.rules.proofs.Answers.{accepted-read}
+use Rattle.rules.proofs.Answers.{accepted_read}
 use Rattle.rules.proofs.InstalmentAnswers.{FirstPairs, first_length, first_more, pair_accepted, pair_only, so_far_goes}
 use Rattle.rules.proofs.InstalmentLaws.{pairs_fewer, total_all}
 use Rattle.rules.proofs.LineLaws.{length-pair_lines}
@@ -46,7 +46,7 @@ module _ (b : List ℕ) (a : Account) (e : meaning b ≡ accepted a) (out : List
   pub list_parts : list_paired b out count allowance ≡ take count out ++ (next_pairs a count made ++ drop (count + made) out)
   unfolding list_paired
   list_parts =
-      let k = accepted-read b a e in
+      let k = accepted_read b a e in
       ap₂ (list_for b out count) k.0 q
       ∙ ap (λ (x : Account). take count out ++ (next_pairs x count made ++ drop (count + made) out)) (sym k.1)
 

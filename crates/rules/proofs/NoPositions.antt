@@ -8,7 +8,7 @@ use mathlib.Core.Path.{◌≡◌, refl, sym, ap, ap₂, ◌∙◌}
 use native.Mathlib.Omega.{arith}
 use lib.IntN.{neg_ℤ, pos}
 use lib.ListN.{length}
-use Rattle.rules.proofs.Answers.{amount-no-row, lines-answered, margin-accepted, premium-accepted}
+use Rattle.rules.proofs.Answers.{amount_no_row, lines_answered, margin_accepted, premium_accepted}
 use Rattle.rules.proofs.LineLaws.{line_count_lem, lines_are, total_is}
 use Rattle.rules.specs.File.{Account}
 use Rattle.rules.specs.Lines.{line_amount, lines, list_after, margin_answer, premium_answer, premiums, sum_over, sum_to, total}
@@ -53,15 +53,15 @@ module _ (a : Account) (empty : a.positions ≡ 0) where
 module _ (b : List ℕ) (a : Account) (e : meaning b ≡ accepted a) (empty : a.positions ≡ 0) where
   pub empty_margin : (n : ℕ) → margin_answer b n ≡ Total 0 0
   empty_margin n =
-      margin-accepted b a e n (omega (arith, empty)) ∙ ap₂ Total (ap length (no_lines a empty)) (no_total a empty)
+      margin_accepted b a e n (omega (arith, empty)) ∙ ap₂ Total (ap length (no_lines a empty)) (no_total a empty)
 
   pub empty_list : (out : List Line) → list_after b out ≡ out
   empty_list out =
-      let k = lines-answered b out 0 0 (empty_margin (length out)) in
+      let k = lines_answered b out 0 0 (empty_margin (length out)) in
       k.list_is ∙ ap (λ (l : List Line). l ++ out) (no_entries (lines k.account) (omega (arith, k.count_is)))
 
   pub empty_premiums : premium_answer b ≡ Amount 0
-  empty_premiums = premium-accepted b a e ∙ ap Amount (no_premiums a empty)
+  empty_premiums = premium_accepted b a e ∙ ap Amount (no_premiums a empty)
 
   pub empty_rows : (row : ℕ) → signed_answer (amount_answer b row) ≡ neg_ℤ (pos 13)
-  empty_rows row = amount-no-row b a e row (omega (arith, empty))
+  empty_rows row = amount_no_row b a e row (omega (arith, empty))

@@ -81,6 +81,6 @@ abbrev pub answer_text : List ℕ → MarginAnswer → List ℕ
 answer_text b (Total n sum) = lines_text (lines_given b most_lines) ++ totals_text (premiums_for b (file_read b)) sum
 answer_text b (NoTotal w row) = refused_text (number w) row
 
--- The output for a file. A list of `most_lines` entries is never too short (`Answers.margin-most`).
+-- The output for a file. A list of `most_lines` entries is never too short (`Answers.margin_most`).
 unfoldable pub margin_text : List ℕ → List ℕ
 margin_text b = answer_text b (margin_answer b most_lines)

@@ -6,7 +6,7 @@ use mathlib.Core.List.{List}
 use mathlib.Core.Path.{◌≡◌, refl, sym, ap, ◌∙◌}
 use native.Mathlib.Omega.{arith}
 use lib.ListN.{length}
-use Rattle.rules.proofs.Answers.{margin-accepted, margin-refused, margin-short, number-range, premium-accepted, premium-refused, room-enough}
+use Rattle.rules.proofs.Answers.{margin_accepted, margin_refused, margin_short, number_range, premium_accepted, premium_refused, room_enough}
 use Rattle.rules.proofs.DayAnswers.{day_done, day_no_series, day_of_refused, day_only, day_wrong_prices}
 use Rattle.rules.proofs.Demand3.{answered}
 use Rattle.rules.specs.Day.{DayWithin, day_answer}
@@ -25,18 +25,18 @@ module _ (b : List ℕ) (n : ℕ) where
   -- An accepted file and a list of at least 2 × p entries: refusal 0, row 0, the line count and the total.
   pub accepted_numbers : (a : Account) → meaning b ≡ accepted a → entries_for a.positions ≤ n
       → margin_numbers (margin_answer b n) ≡ record { refusal = 0; row = 0; lines = length (lines a); total = total a }
-  accepted_numbers a e long = ap margin_numbers (margin-accepted b a e n long)
+  accepted_numbers a e long = ap margin_numbers (margin_accepted b a e n long)
 
   -- An accepted file and a shorter list: 12, and nothing else.
   pub short_numbers : (a : Account) → meaning b ≡ accepted a → n < entries_for a.positions
       → margin_numbers (margin_answer b n) ≡ record { refusal = 12; row = 0; lines = 0; total = 0 }
-  short_numbers a e short = ap margin_numbers (margin-short b a e n short)
+  short_numbers a e short = ap margin_numbers (margin_short b a e n short)
 
   -- A refused file: its number and row.
   pub refused_numbers : (k row : ℕ) → meaning b ≡ refused k row
       → margin_numbers (margin_answer b n) ≡ record { refusal = k; row = row; lines = 0; total = 0 }
   refused_numbers k row e =
-      let r = margin-refused b k row e n in
+      let r = margin_refused b k row e n in
       ap margin_numbers r.2 ∙ ap (λ (x : ℕ). record { refusal = x; row = row; lines = 0; total = 0 }) r.1
 
   -- The other way round: refusal 0 is given only where the file is accepted and the list has at least 2 × p entries.
@@ -46,21 +46,21 @@ module _ (b : List ℕ) (n : ℕ) where
       go : (x : MarginAnswer) → margin_answer b n ≡ x → (a : Account) × (meaning b ≡ accepted a) × (entries_for a.positions ≤ n)
       go (Total count sum) e =
           let k = answered b n count sum e in
-          (k.0, k.1, room-enough b k.0 k.1 n count sum e)
+          (k.0, k.1, room_enough b k.0 k.1 n count sum e)
       go (NoTotal w i) e =
           let y : number w ≡ 0 = sym (ap (λ (x : MarginAnswer). (margin_numbers x).refusal) e) ∙ z in
-          absurd (omega (arith, number-range w))
+          absurd (omega (arith, number_range w))
 
 -- The premiums that `serpentgleam_premiums` tells: of an accepted file its account's, of a refused one its number and row.
 module _ (b : List ℕ) where
   pub accepted_premiums : (a : Account) → meaning b ≡ accepted a
       → answer_numbers (premium_answer b) ≡ record { refusal = 0; row = 0; value = premiums a }
-  accepted_premiums a e = ap answer_numbers (premium-accepted b a e)
+  accepted_premiums a e = ap answer_numbers (premium_accepted b a e)
 
   pub refused_premiums : (k row : ℕ) → meaning b ≡ refused k row
       → answer_numbers (premium_answer b) ≡ record { refusal = k; row = row; value = 0 }
   refused_premiums k row e =
-      let r = premium-refused b k row e in
+      let r = premium_refused b k row e in
       ap answer_numbers r.2 ∙ ap (λ (x : ℕ). record { refusal = x; row = row; value = 0 }) r.1
 
 -- A day that `serpentgleam_day` is asked for: of a refused file its number and row; of an accepted one 16, 17 or 0.
@@ -88,4 +88,4 @@ module _ (b : List ℕ) (d : Day) where
       go Applied e = day_only b d e
       go (NotApplied w i) e =
           let y : number w ≡ 0 = sym (ap (λ (x : DayAnswer). (day_numbers x).refusal) e) ∙ z in
-          absurd (omega (arith, number-range w))
+          absurd (omega (arith, number_range w))

@@ -6,7 +6,7 @@ use mathlib.Core.List.{List}
 use mathlib.Core.Path.{◌≡◌, refl, sym, ap, ◌∙◌}
 use native.Mathlib.Omega.{arith}
 use lib.ListN.{length}
-use Rattle.rules.proofs.Answers.{number-range}
+use Rattle.rules.proofs.Answers.{number_range}
 use Rattle.rules.proofs.ApartAnswers.{apart_18, apart_19, apart_accepted, apart_goes, apart_only, apart_refused, apart_short}
 use Rattle.rules.proofs.InstalmentAnswers.{FirstPairs}
 use Rattle.rules.specs.File.{Account}
@@ -61,4 +61,4 @@ module _ (b : List ℕ) (out : List Line) (count k : ℕ) where
           (known.0, known.1, s.0, s.1, s.2)
       go (NotTakenApart w i) q =
           let y : number w ≡ 0 = sym (ap (λ (x : ApartAnswer). (apart_numbers x).refusal) q) ∙ z in
-          absurd (omega (arith, number-range w))
+          absurd (omega (arith, number_range w))

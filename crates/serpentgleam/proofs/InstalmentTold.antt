@@ -6,7 +6,7 @@ use mathlib.Core.List.{List}
 use mathlib.Core.Path.{◌≡◌, refl, sym, ap, ◌∙◌}
 use native.Mathlib.Omega.{arith}
 use lib.ListN.{length}
-use Rattle.rules.proofs.Answers.{number-range}
+use Rattle.rules.proofs.Answers.{number_range}
 use Rattle.rules.proofs.InstalmentAnswers.{FirstPairs, pair_18, pair_accepted, pair_goes, pair_only, pair_refused, pair_short, so_far_18, so_far_accepted, so_far_goes, so_far_only, so_far_refused, so_far_short}
 use Rattle.rules.specs.File.{Account}
 use Rattle.rules.specs.Instalments.{amount_so_far, made_of, pair_answer}
@@ -76,7 +76,7 @@ module _ (b : List ℕ) (out : List Line) (count : ℕ) where
           (k.0, k.1, s.0, s.1)
       go (NotPaired w i) q =
           let y : number w ≡ 0 = sym (ap (λ (x : PairAnswer). (pair_numbers x).refusal) q) ∙ z in
-          absurd (omega (arith, number-range w))
+          absurd (omega (arith, number_range w))
 
   pub no_so_far_refusal : (answer_numbers (amount_so_far b out count)).refusal ≡ 0 → Goes
   no_so_far_refusal z = go (amount_so_far b out count) refl
@@ -88,4 +88,4 @@ module _ (b : List ℕ) (out : List Line) (count : ℕ) where
           (k.0, k.1, s.0, s.1)
       go (NoAmount w i) q =
           let y : number w ≡ 0 = sym (ap (λ (x : AmountAnswer). (answer_numbers x).refusal) q) ∙ z in
-          absurd (omega (arith, number-range w))
+          absurd (omega (arith, number_range w))

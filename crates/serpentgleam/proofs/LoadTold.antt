@@ -7,7 +7,7 @@ use Rattle.load.proofs.LoadAnswers.{made, made_within, not_made}
 use Rattle.load.specs.Load.{LoadWithin, NoLoad, load_answer, load_size}
 use Rattle.load.specs.declared.LoadAnswer.{LoadAnswer}
 use Rattle.load.specs.declared.LoadAnswer.TheVariants.{Made, NotMade}
-use Rattle.rules.proofs.Answers.{number-range}
+use Rattle.rules.proofs.Answers.{number_range}
 use Rattle.rules.specs.Refusals.{number}
 use Rattle.serpentgleam.specs.LoadNumbers.{load_numbers}
 
@@ -28,4 +28,4 @@ module _ (seed p room : ℕ) where
       go (Made bytes) e = (made_within seed p room bytes e).0
       go (NotMade w i) e =
           let y : number w ≡ 0 = sym (ap (λ (x : LoadAnswer). (load_numbers x).refusal) e) ∙ z in
-          absurd (omega (arith, number-range w))
+          absurd (omega (arith, number_range w))
