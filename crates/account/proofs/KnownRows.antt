@@ -8,12 +8,12 @@ use Rattle.rules.proofs.TrailerLimits as TrailerLimits
 use Rattle.rules.specs.File.{account_of, layout, position_row, series_row}
 use Rattle.rules.specs.Limits.{Placed, PositionWithin, SeriesWithin}
 use Rattle.rules.specs.Refusals.{file_read}
-use Rattle.rules.specs.declared.FileRead.TheVariants.{Accepted}
 use Rattle.rules.specs.declared.Layout.{Layout}
 use Rattle.rules.specs.declared.Position.{Position}
 use Rattle.account.specs.Known.{Known}
+use Rattle.std.specs.Prelude.{Ok}
 
-pub known : (b : List ℕ) (l : Layout) → file_read b ≡ Accepted l → Known b l
+pub known : (b : List ℕ) (l : Layout) → file_read b ≡ Ok l → Known b l
 known b l e =
     let h = read_within b l e in
     record {

@@ -6,29 +6,26 @@ pub fn u8_at(file: &[u8], i: usize) -> u32
     requires { i < length file.now }
     ensures { (result ≡ u8_at file.now i) × (result < 256) }
 {
-    file[i] as u32
+    u32::from(file[i])
 }
 
 pub fn u16_at(file: &[u8], i: usize) -> u32
     requires { i + 1 < length file.now }
     ensures { (result ≡ u16_at file.now i) × (result < 65536) }
 {
-    u8_at(file, i) + 256 * u8_at(file, i + 1)
+    u32::from(u16::from_le_bytes([file[i], file[i + 1]]))
 }
 
 pub fn u24_at(file: &[u8], i: usize) -> u32
     requires { i + 2 < length file.now }
     ensures { result ≡ u24_at file.now i }
 {
-    u8_at(file, i) + 256 * u8_at(file, i + 1) + 65_536 * u8_at(file, i + 2)
+    u32::from_le_bytes([file[i], file[i + 1], file[i + 2], 0])
 }
 
 pub fn u32_at(file: &[u8], i: usize) -> u32
     requires { i + 3 < length file.now }
     ensures { result ≡ u32_at file.now i }
 {
-    u8_at(file, i)
-        + 256 * u8_at(file, i + 1)
-        + 65_536 * u8_at(file, i + 2)
-        + 16_777_216 * u8_at(file, i + 3)
+    u32::from_le_bytes([file[i], file[i + 1], file[i + 2], file[i + 3]])
 }

@@ -3,8 +3,7 @@
 ghost use Rattle.std.specs.Prelude.{◌≡◌};
 ghost use Rattle.rules.specs.Refusals.{wrong_barrier_price, wrong_barrier_side, wrong_limiter, wrong_range, wrong_series_range, wrong_series_type, wrong_terms};
 
-use crate::values::flags_of;
-use rules::{PositionRow, SeriesRow};
+use rules::{Flags, PositionRow, SeriesRow};
 
 pub fn wrong_series_range(r: SeriesRow) -> bool
     ensures { result ≡ wrong_series_range r }
@@ -25,7 +24,7 @@ pub fn wrong_series_type(r: SeriesRow) -> bool
 pub fn wrong_terms(s: usize, r: PositionRow) -> bool
     ensures { result ≡ wrong_terms s r }
 {
-    let flags = flags_of(r.flags);
+    let flags = Flags::from(r.flags);
     (s <= (r.series as usize))
         | (1 < r.side)
         | (4 < r.kind)
@@ -49,7 +48,7 @@ pub fn wrong_range(r: PositionRow) -> bool
 pub fn wrong_limiter(option: u32, r: PositionRow) -> bool
     ensures { result ≡ wrong_limiter option r }
 {
-    let flags = flags_of(r.flags);
+    let flags = Flags::from(r.flags);
     (!flags.limited & !(r.pb == 0))
         | (flags.limited & (option == 0) & ((r.pb <= r.pe) | (10_000_000 < r.pb)))
         | (flags.limited & !(option == 0) & (r.pe <= r.pb))
@@ -65,7 +64,7 @@ pub fn wrong_barrier_price(r: PositionRow) -> bool
 pub fn wrong_barrier_side(pv: u32, r: PositionRow) -> bool
     ensures { result ≡ wrong_barrier_side pv r }
 {
-    let flags = flags_of(r.flags);
+    let flags = Flags::from(r.flags);
     (!flags.knockedIn & !flags.knockedOut)
         & ((((r.kind == 1) | (r.kind == 3)) & (r.price <= pv))
             | (((r.kind == 2) | (r.kind == 4)) & (pv <= r.price)))

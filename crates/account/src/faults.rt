@@ -9,8 +9,8 @@ use crate::checks::{
 };
 use crate::rows::{distance_back, position_count, series_count, trailer_spare};
 use rules::{
-    Fault, MOST_BYTES, MOST_POSITIONS, MOST_SERIES, POSITION_WIDTH, PositionRow, Refusal,
-    SERIES_WIDTH, SeriesRow, TRAILER_WIDTH,
+    MOST_BYTES, MOST_POSITIONS, MOST_SERIES, POSITION_WIDTH, PositionRow, Refusal, SERIES_WIDTH,
+    SeriesRow, TRAILER_WIDTH,
 };
 
 fn wrong_trailer(file: &[u8]) -> bool
@@ -33,48 +33,48 @@ fn wrong_distance(file: &[u8]) -> bool
     !(distance == TRAILER_WIDTH + SERIES_WIDTH * s + POSITION_WIDTH * p) | (file.len() < distance)
 }
 
-pub fn trailer_fault(file: &[u8]) -> Fault
+pub fn trailer_fault(file: &[u8]) -> Result<(), Refusal>
     ensures { result ≡ trailer_fault file.now }
 {
     let n = file.len();
     if (n < TRAILER_WIDTH) | (MOST_BYTES < n) {
-        return Fault::Found(Refusal::FileSize);
+        return Err(Refusal::FileSize);
     }
     if wrong_trailer(file) {
-        return Fault::Found(Refusal::Trailer);
+        return Err(Refusal::Trailer);
     }
     if wrong_distance(file) {
-        return Fault::Found(Refusal::Distance);
+        return Err(Refusal::Distance);
     }
-    Fault::Clean
+    Ok(())
 }
 
-pub fn series_row_fault(r: SeriesRow) -> Fault
+pub fn series_row_fault(r: SeriesRow) -> Result<(), Refusal>
     ensures { result ≡ series_row_fault r }
 {
     if wrong_series_range(r) {
-        return Fault::Found(Refusal::SeriesRange);
+        return Err(Refusal::SeriesRange);
     }
     if wrong_series_type(r) {
-        return Fault::Found(Refusal::SeriesType);
+        return Err(Refusal::SeriesType);
     }
-    Fault::Clean
+    Ok(())
 }
 
-pub fn matched_fault(k: SeriesRow, r: PositionRow) -> Fault
+pub fn matched_fault(k: SeriesRow, r: PositionRow) -> Result<(), Refusal>
     ensures { result ≡ matched_fault k r }
 {
     if wrong_range(r) {
-        return Fault::Found(Refusal::PositionRange);
+        return Err(Refusal::PositionRange);
     }
     if wrong_limiter(k.option, r) {
-        return Fault::Found(Refusal::LimiterPrice);
+        return Err(Refusal::LimiterPrice);
     }
     if wrong_barrier_price(r) {
-        return Fault::Found(Refusal::BarrierPrice);
+        return Err(Refusal::BarrierPrice);
     }
     if wrong_barrier_side(k.pv, r) {
-        return Fault::Found(Refusal::BarrierSide);
+        return Err(Refusal::BarrierSide);
     }
-    Fault::Clean
+    Ok(())
 }

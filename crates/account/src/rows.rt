@@ -1,4 +1,5 @@
-// Where a file's rows stand, and a row's numbers as they stand there.
+// Where a file's rows stand, and a row's numbers as they stand there. Bytes and layout stay apart: the file may still be
+// refused (a).
 ghost use Rattle.std.specs.Prelude.{◌+◌, ◌*◌, ◌≤◌, ◌<◌, length, ◌≡◌};
 ghost use Rattle.rules.specs.File.{distance, layout, position_count, position_row, position_row_from, position_width, series_count, series_row, series_row_from, series_width, trailer_spare, trailer_width};
 ghost use Rattle.rules.specs.Limits.{Placed, TrailerWithin};

@@ -6,7 +6,7 @@ ghost use Rattle.rules.specs.File.{position_row};
 ghost use Rattle.rules.specs.Limits.{Placed};
 
 use account::rows::position_row;
-use account::values::barrier_of;
+use rules::values::barrier_of;
 use rules::{Barrier, Day, Layout};
 
 // The day knocked the barrier in.
@@ -14,11 +14,9 @@ fn crossed_in(d: Day, barrier: Barrier) -> bool
     ensures { result ≡ crossed_in d barrier }
 {
     match barrier {
-        Barrier::NoBarrier => false,
         Barrier::UpIn(price) => (price as u64) <= d.high,
         Barrier::DownIn(price) => d.low <= (price as u64),
-        Barrier::UpOut(_) => false,
-        Barrier::DownOut(_) => false,
+        _ => false,
     }
 }
 
@@ -27,11 +25,9 @@ fn crossed_out(d: Day, barrier: Barrier) -> bool
     ensures { result ≡ crossed_out d barrier }
 {
     match barrier {
-        Barrier::NoBarrier => false,
-        Barrier::UpIn(_) => false,
-        Barrier::DownIn(_) => false,
         Barrier::UpOut(price) => (price as u64) <= d.high,
         Barrier::DownOut(price) => d.low <= (price as u64),
+        _ => false,
     }
 }
 
@@ -66,10 +62,7 @@ pub fn write_flags(file: &mut [u8], l: Layout, d: Day)
     requires { Known file.old l }
     ensures { file.new ≡ flags_written file.old l d l.positions }
 {
-    let p = l.positions;
-    let mut r = 0;
-    while r < p {
+    for r in 0..l.positions {
         write_row_flags(file, l, d, r);
-        r += 1;
     }
 }

@@ -5,24 +5,46 @@
 // 1,000,000,000 cases, without one.
 #![tactic(auto)]
 
-ghost use Rattle.std.specs.Prelude.{◌+◌, ◌≤◌, length, ◌≡◌};
+ghost use Rattle.std.specs.Prelude.{◌+◌, ◌≤◌, length};
 
-use account::bytes::u32_at;
 use day::apply_day;
-use framing::{Frame, next_file};
-use refusals::refusal_number;
-use rules::{Day, DayAnswer, MOST_BYTES};
-use std::io::Read;
+use framing::{CutOff, for_each_file};
+use rules::{Day, MOST_BYTES};
+use std::fmt;
 
 // The bytes of a day.
 const DAY_WIDTH: usize = 32;
 
+// What ends a run before the input does.
+#[derive(Clone, Copy)]
+enum Stop {
+    CutOff(CutOff),
+    NoDay,
+}
+
+impl From<CutOff> for Stop {
+    fn from(cut_off: CutOff) -> Stop {
+        Stop::CutOff(cut_off)
+    }
+}
+
+impl fmt::Display for Stop {
+    fn fmt<W: fmt::Write>(&self, f: &mut fmt::Formatter<W>) -> fmt::Result {
+        match self {
+            Stop::CutOff(cut_off) => write!(f, "{cut_off}"),
+            Stop::NoDay => write!(f, "no day"),
+        }
+    }
+}
+
+// The number of eight little-endian bytes.
 fn u64_at(bytes: &[u8], i: usize) -> u64
     requires { i + 8 ≤ length bytes.now }
 {
-    (u32_at(bytes, i) as u64) + 4_294_967_296 * (u32_at(bytes, i + 4) as u64)
+    u64::from_le_bytes(bytes[i..i + 8].try_into().unwrap())
 }
 
+// The day at the front of a case.
 fn day_at(bytes: &[u8]) -> Day
     requires { 32 ≤ length bytes.now }
 {
@@ -34,66 +56,26 @@ fn day_at(bytes: &[u8]) -> Day
     }
 }
 
-fn print_number(rt: &impl Print, n: u64) {
-    let _ = rt.write_all(b" ");
-    let _ = rt.print(n);
-}
-
-fn print_answer(rt: &impl Print, answer: DayAnswer) {
-    match answer {
-        DayAnswer::Applied => {
-            let _ = rt.write_all(b"day\n");
-        }
-        DayAnswer::NotApplied(why, row) => {
-            let _ = rt.write_all(b"refused");
-            print_number(rt, refusal_number(why) as u64);
-            print_number(rt, row as u64);
-            let _ = rt.write_all(b"\n");
-        }
+// Applies the day at the front of a case to the file after it, and writes the answer and the file.
+fn report(rt: &impl Print, case: &mut [u8]) -> Result<(), Stop> {
+    if case.len() < DAY_WIDTH {
+        return Err(Stop::NoDay);
     }
-}
-
-// Applies the day at the front of the first n bytes to the file after it, and writes both.
-fn report(rt: &impl Print, space: &mut [u8], n: usize)
-    requires { (32 ≤ n) × (n ≤ length space.old) }
-    ensures { length space.new ≡ length space.old }
-{
-    let d = day_at(space);
-    let answer = apply_day(&mut space[DAY_WIDTH..n], d);
-    print_answer(rt, answer);
-    let _ = rt.write_all(&space[DAY_WIDTH..n]);
+    let d = day_at(case);
+    let file = &mut case[DAY_WIDTH..];
+    let _ = match apply_day(file, d) {
+        Ok(()) => println!(rt; "day"),
+        Err(refused) => println!(rt; "refused {refused}"),
+    };
+    let _ = rt.write_all(file);
     let _ = rt.write_all(b"\n");
-}
-
-// Reads and reports one day and its file; false where the input ends.
-fn report_next<R: Read>(rt: &impl Print, input: &mut R, space: &mut [u8]) -> bool
-    ensures { length space.new ≡ length space.old }
-{
-    match next_file(input, space) {
-        Frame::File(n) => {
-            if n < DAY_WIDTH {
-                let _ = rt.write_all(b"no day\n");
-                return false;
-            }
-            report(rt, space, n);
-            true
-        }
-        Frame::CutOff => {
-            let _ = rt.write_all(b"cut off\n");
-            false
-        }
-        Frame::End => false,
-    }
+    Ok(())
 }
 
 fn main(rt: HostRuntime) {
-    let mut input = rt.stdin();
     let mut space = [0u8; DAY_WIDTH + MOST_BYTES + 1];
-    let mut files: u32 = 0;
-    while files < 1_000_000_000 {
-        if !report_next(&rt, &mut input, &mut space) {
-            return;
-        }
-        files += 1;
+    let run = for_each_file(&mut rt.stdin(), &mut space, &mut |case| report(&rt, case));
+    if let Err(stop) = run {
+        let _ = println!(rt; "{stop}");
     }
 }

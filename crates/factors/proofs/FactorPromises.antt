@@ -11,13 +11,11 @@ use Rattle.factors.proofs.Powers.{at_least, at_most, high_power, low_power}
 use Rattle.factors.specs.Factors.{Fa, FactorsAre, Fb, HighDaily, HighGrowth, LowGrowth, code_row, down, ga, gb, multiplied, one, up}
 use Rattle.factors.specs.Numbers.{FormulaAsked}
 use Rattle.factors.specs.declared.Code.{Code}
-use Rattle.factors.specs.declared.FactorsAnswer.TheVariants.{NoFactors}
 use Rattle.roots.proofs.Extremes.{least_one}
 use Rattle.roots.specs.Roots.{Reaches, most_days}
 use Rattle.rules.proofs.SeriesLimits as limits
 use Rattle.rules.specs.Limits.{SeriesWithin}
-use Rattle.rules.specs.Refusals.{number, series_row_fault}
-use Rattle.rules.specs.declared.Fault.TheVariants.{Clean}
+use Rattle.rules.specs.Refusals.{clean, number, refused_at, series_row_fault}
 use Rattle.rules.specs.declared.Refusal.{Refusal}
 use Rattle.rules.specs.declared.SeriesRow.{SeriesRow}
 
@@ -45,7 +43,7 @@ low_growth c n x h =
     (at_most one h.daily (multiplied down h.daily) refl (down_step h.daily) n))
 
 -- "(14: n above 1,800, or code not 0 to 3.)": a refusal has this number, and row 0.
-pub refused_number : (k n : ℕ) (w : Refusal) (row : ℕ) → FactorsAre k n (NoFactors w row) → (number w ≡ 14) × (row ≡ 0)
+pub refused_number : (k n : ℕ) (w : Refusal) (row : ℕ) → FactorsAre k n (refused_at w row) → (number w ≡ 14) × (row ≡ 0)
 refused_number k n w row (_, e, z) = (ap number e, z)
 
 -- The formulas, with their products as one number.
@@ -103,5 +101,5 @@ module _ (c : Code) (n fa : ℕ) (few : n ≤ most_days) (h : Fa c n fa) where
           spare_zero = w.spare_zero;
         }
 
-    pub series_clean : series_row_fault (with_factors r fa fb) ≡ Clean
+    pub series_clean : series_row_fault (with_factors r fa fb) ≡ clean
     series_clean = limits.series_clean (with_factors r fa fb) series_within

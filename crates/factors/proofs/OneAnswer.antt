@@ -5,16 +5,18 @@ use mathlib.Core.Logic.{◌⊎◌, inl, inr}
 use mathlib.Core.Path.{◌≡◌, refl, sym, ap, ap₂, subst, ◌∙◌}
 use native.Mathlib.Omega.{arith}
 use Rattle.factors.proofs.FactorValues.{fa_of, fb_of, high_value, low_value}
-use Rattle.factors.specs.Factors.{Fa, Factor, FactorsAre, Fb, Growth, HighDaily, HighGrowth, LowDaily, LowGrowth, code_number, code_row, down, ga, gb, high_factor, low_factor, multiplied, up}
+use Rattle.factors.specs.Factors.{factors_told, Fa, Factor, FactorsAre, Fb, Growth, HighDaily, HighGrowth, LowDaily, LowGrowth, code_number, code_row, down, ga, gb, high_factor, low_factor, multiplied, up}
 use Rattle.factors.specs.declared.Code.{Code}
 use Rattle.factors.specs.declared.Code.TheVariants.{FCI, FPI, OFC, OFV}
-use Rattle.factors.specs.declared.FactorsAnswer.{FactorsAnswer}
-use Rattle.factors.specs.declared.FactorsAnswer.TheVariants.{Factors, NoFactors}
 use Rattle.numbers.proofs.Order.{split}
 use Rattle.roots.proofs.Extremes.{greatest_one, least_one}
 use Rattle.roots.proofs.Squares.{root_some}
 use Rattle.roots.specs.Roots.{Reaches, most_days}
 use Rattle.rules.specs.declared.Refusal.TheVariants.{FactorsAskedFor}
+use Rattle.std.specs.Prelude.{Result, Ok, Err}
+use Rattle.rules.specs.declared.Refused.{Refused}
+use Rattle.rules.specs.Refusals.{refused_at}
+use Rattle.factors.specs.declared.formulas.Factors.{Factors}
 
 -- Of one daily factor there is one growth, and of one growth one factor.
 growth_one : (D : ℕ → Type 0) (r n x y : ℕ) → ((d e : ℕ) → D d → D e → d ≡ e) → Growth D r n x → Growth D r n y → x ≡ y
@@ -65,13 +67,13 @@ pub not_refused : (k n : ℕ) (c : Code) → code_number c ≡ k → n ≤ most_
 not_refused k n c e few (inl l) = omega arith
 not_refused k n c e few (inr l) = omega (arith, e, number_most c)
 
-pub answer_one : (k n : ℕ) (a b : FactorsAnswer) → FactorsAre k n a → FactorsAre k n b → a ≡ b
-answer_one k n (Factors fa fb) (Factors fa₂ fb₂) (c, i, few, x, y) (d, j, _, u, v) =
+pub answer_one : (k n : ℕ) (a b : Result Factors Refused) → FactorsAre k n a → FactorsAre k n b → a ≡ b
+answer_one k n (Ok s) (Ok t) (c, i, few, x, y) (d, j, _, u, v) =
     let same = code_one k d c j i in
-    ap₂ Factors (fa_one c n fa fa₂ x (subst (λ (z : Code). Fa z n fa₂) same u)) (fb_one c n fb fb₂ y (subst (λ (z : Code). Fb z n fb₂) same v))
-answer_one k n (Factors fa fb) (NoFactors w row) (c, i, few, _, _) (t, _, _) = absurd (not_refused k n c i few t)
-answer_one k n (NoFactors w row) (Factors fa fb) (t, _, _) (c, i, few, _, _) = absurd (not_refused k n c i few t)
-answer_one k n (NoFactors w row) (NoFactors v at) (_, a, b) (_, e, f) = ap₂ NoFactors (a ∙ sym e) (b ∙ sym f)
+    ap₂ factors_told (fa_one c n s.fa t.fa x (subst (λ (z : Code). Fa z n t.fa) same u)) (fb_one c n s.fb t.fb y (subst (λ (z : Code). Fb z n t.fb) same v))
+answer_one k n (Ok s) (Err r) (c, i, few, _, _) (t, _, _) = absurd (not_refused k n c i few t)
+answer_one k n (Err r) (Ok s) (t, _, _) (c, i, few, _, _) = absurd (not_refused k n c i few t)
+answer_one k n (Err r) (Err q) (_, a, b) (_, e, f) = ap₂ refused_at (a ∙ sym e) (b ∙ sym f)
 
 -- fa and fb of every code and every number of days, and so an answer to every two numbers.
 pub fa_some : (c : Code) (n : ℕ) → (fa : ℕ) × Fa c n fa
@@ -91,16 +93,16 @@ named_number (suc (suc zero)) l = refl
 named_number (suc (suc (suc zero))) l = refl
 named_number (suc (suc (suc (suc k)))) l = absurd (omega arith)
 
-pub answer_some : (k n : ℕ) → (a : FactorsAnswer) × FactorsAre k n a
+pub answer_some : (k n : ℕ) → (a : Result Factors Refused) × FactorsAre k n a
 answer_some k n = days (split most_days n)
   where
-    code : n ≤ most_days → (3 < k) ⊎ (k ≤ 3) → (a : FactorsAnswer) × FactorsAre k n a
-    code few (inl l) = (NoFactors FactorsAskedFor 0, (inr l, refl, refl))
+    code : n ≤ most_days → (3 < k) ⊎ (k ≤ 3) → (a : Result Factors Refused) × FactorsAre k n a
+    code few (inl l) = (refused_at FactorsAskedFor 0, (inr l, refl, refl))
     code few (inr l) =
         let a = fa_some (named k) n in
         let b = fb_some (named k) n in
-        (Factors a.0 b.0, (named k, named_number k l, few, a.1, b.1))
+        (factors_told a.0 b.0, (named k, named_number k l, few, a.1, b.1))
 
-    days : (most_days < n) ⊎ (n ≤ most_days) → (a : FactorsAnswer) × FactorsAre k n a
-    days (inl l) = (NoFactors FactorsAskedFor 0, (inl l, refl, refl))
+    days : (most_days < n) ⊎ (n ≤ most_days) → (a : Result Factors Refused) × FactorsAre k n a
+    days (inl l) = (refused_at FactorsAskedFor 0, (inl l, refl, refl))
     days (inr few) = code few (split 3 k)

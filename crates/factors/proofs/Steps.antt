@@ -5,13 +5,14 @@ use mathlib.Core.Path.{◌≡◌, refl, ap₂, subst, sym, ◌∙◌}
 use lib.Dec.{lit≤}
 use native.Mathlib.Omega.{arith}
 use Rattle.factors.proofs.FactorLimits.{high_daily, formula_asked, low_daily}
-use Rattle.factors.specs.Factors.{FactorsAre, HighDaily, HighGrowth, LowDaily, LowGrowth, code_number, code_row, down, high_factor, low_factor, multiplied, up}
+use Rattle.factors.specs.Factors.{factors_told, FactorsAre, HighDaily, HighGrowth, LowDaily, LowGrowth, code_number, code_row, down, high_factor, low_factor, multiplied, up}
 use Rattle.factors.specs.Numbers.{FormulaAsked, GrowthAsked, NumbersOf}
 use Rattle.factors.specs.declared.Code.{Code}
-use Rattle.factors.specs.declared.FactorsAnswer.{FactorsAnswer}
-use Rattle.factors.specs.declared.FactorsAnswer.TheVariants.{Factors}
 use Rattle.factors.specs.declared.codes.CodeNumbers.{CodeNumbers}
 use Rattle.roots.specs.Roots.{Root, most_days}
+use Rattle.std.specs.Prelude.{Result}
+use Rattle.rules.specs.declared.Refused.{Refused}
+use Rattle.factors.specs.declared.formulas.Factors.{Factors}
 
 module _ (c : Code) (r : CodeNumbers) (n : ℕ) (h : NumbersOf c r) (few : n ≤ most_days) where
   pub high_growth_asked : (rounding : ℕ) → rounding ≤ up → GrowthAsked rounding r.high n
@@ -47,7 +48,7 @@ module _ (c : Code) (r : CodeNumbers) (n : ℕ) (h : NumbersOf c r) (few : n ≤
     low_formula_asked e = own x s (formula_asked c (LowDaily c) down n x s (low_daily c) (lit≤ tt) few (low_grown x e) q)
 
   pub factors_are : (x y s fa fb : ℕ) → Root n s → x ≡ multiplied up r.high n → y ≡ multiplied down r.low n
-      → fa ≡ high_factor r.f2 r.f4 x s → fb ≡ low_factor r.f2 r.f4 y s → FactorsAre (code_number c) n (Factors fa fb)
+      → fa ≡ high_factor r.f2 r.f4 x s → fb ≡ low_factor r.f2 r.f4 y s → FactorsAre (code_number c) n (factors_told fa fb)
   factors_are x y s fa fb q a b i j = (
     c,
     refl,
@@ -68,10 +69,11 @@ module _ (c : Code) (r : CodeNumbers) (n : ℕ) (h : NumbersOf c r) (few : n ≤
     },
   )
 
--- A number that is known to be a code's, and one that is none of them.
-pub told_number : (j k n : ℕ) (a : FactorsAnswer) → k ≡ j → FactorsAre j n a → FactorsAre k n a
+-- The answer to a number that names a code is that to the code's own number.
+pub told_number : (j k n : ℕ) (a : Result Factors Refused) → k ≡ j → FactorsAre j n a → FactorsAre k n a
 told_number j k n a e h = subst (λ (x : ℕ). FactorsAre x n a) (sym e) h
 
+-- A number that is none of a code's.
 pub above_three : (k : ℕ) → (k ≡ 0 → ⊥) → (k ≡ 1 → ⊥) → (k ≡ 2 → ⊥) → (k ≡ 3 → ⊥) → 3 < k
 above_three zero a b c d = absurd (a refl)
 above_three (suc zero) a b c d = absurd (b refl)

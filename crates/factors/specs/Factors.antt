@@ -3,13 +3,14 @@
 -- Units: the rate i/100, F1, F2 and F4 are whole numbers of 10^-4, S of 10^-6, rates and growth of 10^-8, fa and fb of 10^-6.
 -- As in document 01's definitions a difference x - y is 0 where y is greater. That is what "at least 0" says of fb; the two
 -- other differences here take at most what is there (`FactorLimits.row_limits` and `f2_root_most`).
-use Rattle.std.specs.Prelude.{ℕ, zero, suc, ◌+◌, ◌*◌, ◌-◌, ◌/◌, ◌≤◌, ◌<◌, ◌⊎◌, ◌≡◌}
+use Rattle.std.specs.Prelude.{ℕ, zero, suc, ◌+◌, ◌*◌, ◌-◌, ◌/◌, ◌≤◌, ◌<◌, ◌⊎◌, ◌≡◌, Result, Ok, Err}
 use Rattle.roots.specs.Roots.{Greatest, Least, Root, most_days}
+use Rattle.rules.specs.declared.Refusal.{Refusal}
 use Rattle.rules.specs.declared.Refusal.TheVariants.{FactorsAskedFor}
 use Rattle.factors.specs.declared.Code.{Code}
 use Rattle.factors.specs.declared.Code.TheVariants.{FCI, FPI, OFC, OFV}
-use Rattle.factors.specs.declared.FactorsAnswer.{FactorsAnswer}
-use Rattle.factors.specs.declared.FactorsAnswer.TheVariants.{Factors, NoFactors}
+use Rattle.rules.specs.declared.Refused.{Refused}
+use Rattle.factors.specs.declared.formulas.Factors.{Factors}
 
 -- The codes by which a call names the rows, in the circular's order.
 abbrev pub code_number : Code → ℕ
@@ -17,6 +18,11 @@ code_number FCI = 0
 code_number FPI = 1
 code_number OFC = 2
 code_number OFV = 3
+
+-- A number names a code, or is refused with 14: it is not 0 to 3.
+abbrev pub CodeIs : ℕ → Result Code Refusal → Type 0
+CodeIs k (Ok c) = code_number c ≡ k
+CodeIs k (Err w) = (3 < k) × (w ≡ FactorsAskedFor)
 
 -- A row of the circular's table: "the rate i/100, F1, F2 and F4 in 10^-4, so i is 2,100 for FCI". Its F3 is not used here: it is
 -- f3 of the series row.
@@ -102,8 +108,11 @@ Fa c n = Factor (HighGrowth c n) n (high_factor (code_row c).f2 (code_row c).f4)
 abbrev pub Fb : Code → ℕ → ℕ → Type 0
 Fb c n = Factor (LowGrowth c n) n (low_factor (code_row c).f2 (code_row c).f4)
 
+abbrev pub factors_told : ℕ → ℕ → Result Factors Refused
+factors_told fa fb = Ok (record { fa = fa; fb = fb })
+
 -- What is answered to a number k for the code and n days: fa and fb, or "(14: n above 1,800, or code not 0 to 3.)", given for
 -- no row.
-abbrev pub FactorsAre : ℕ → ℕ → FactorsAnswer → Type 0
-FactorsAre k n (Factors fa fb) = (c : Code) × (code_number c ≡ k) × (n ≤ most_days) × Fa c n fa × Fb c n fb
-FactorsAre k n (NoFactors w row) = ((most_days < n) ⊎ (3 < k)) × (w ≡ FactorsAskedFor) × (row ≡ 0)
+abbrev pub FactorsAre : ℕ → ℕ → Result Factors Refused → Type 0
+FactorsAre k n (Ok told) = (c : Code) × (code_number c ≡ k) × (n ≤ most_days) × Fa c n told.fa × Fb c n told.fb
+FactorsAre k n (Err refusal) = ((most_days < n) ⊎ (3 < k)) × (refusal.why ≡ FactorsAskedFor) × (refusal.row ≡ 0)

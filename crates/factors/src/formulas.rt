@@ -3,6 +3,13 @@ ghost use Rattle.std.specs.Prelude.{◌≡◌};
 ghost use Rattle.factors.specs.Factors.{high_factor, low_factor};
 ghost use Rattle.factors.specs.Numbers.{FormulaAsked};
 
+// fa and fb in millionths.
+#[derive(Clone, Copy)]
+pub struct Factors {
+    pub fa: u64,
+    pub fb: u64,
+}
+
 // 1 in units of 10^-10, those of F2 × S.
 const ONE_BESIDE_ROOT: u64 = 10_000_000_000;
 

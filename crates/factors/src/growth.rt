@@ -17,10 +17,8 @@ pub fn growth(rounding: u64, d: u64, n: u64) -> u64
     ensures { result ≡ multiplied rounding d n }
 {
     let mut x = ONE;
-    let mut k = 0;
-    while k < n {
+    for _ in 0..n {
         x = (x * d + rounding) / ONE;
-        k += 1;
     }
     x
 }

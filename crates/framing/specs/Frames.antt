@@ -1,9 +1,8 @@
--- How many bytes of the space a frame takes.
-use Rattle.std.specs.Prelude.{ℕ}
-use Rattle.framing.specs.declared.Frame.{Frame}
-use Rattle.framing.specs.declared.Frame.TheVariants.{File, CutOff, End}
+-- How many bytes of the space a file takes.
+use Rattle.std.specs.Prelude.{ℕ, Option, Some, None, Result, Ok, Err}
+use Rattle.framing.specs.declared.CutOff.{CutOff}
 
-abbrev pub frame_length : Frame → ℕ
-frame_length (File n) = n
-frame_length CutOff = 0
-frame_length End = 0
+abbrev pub frame_length : Result (Option ℕ) CutOff → ℕ
+frame_length (Ok (Some n)) = n
+frame_length (Ok None) = 0
+frame_length (Err cut_off) = 0

@@ -5,47 +5,50 @@
 ghost use Rattle.std.specs.Prelude.{length, ◌≡◌};
 ghost use Rattle.instalments.specs.Ready.{AmountReady, PairsReady, apart_by, end, kept_of, start};
 ghost use Rattle.lines.specs.LineNumbers.{most_numbers, most_pair_numbers};
-ghost use Rattle.rules.specs.Refusals.{file_read};
-ghost use Rattle.rules.specs.declared.FileRead.TheVariants.{Accepted};
 
-use account::reader::read_file;
+use account::accepted::AcceptedFile;
+use account::lookup::accept;
 use lines::entries_for;
 use lines_and_total::listing::{list_lines, list_pairs};
 use lines_and_total::premium::premium_sum;
-use rules::{ApartAnswer, FileRead, Layout, Refusal};
+use rules::{Refusal, Refused};
 
-// With how many lines the list must begin, with how many it begins after the call, and the number to be answered; or the
-// refusal. Taking apart asks for no further pairs, and of the three numbers the first alone counts.
+// With how many lines the list must begin, with how many it begins after the call, and the number to be answered. Taking
+// apart asks for no further pairs, and of the three numbers the first alone counts.
 #[derive(Clone, Copy)]
-pub enum CallLines {
-    Lines(usize, usize, u64),
-    NoLines(Refusal, usize),
+pub struct CallLines {
+    pub first: usize,
+    pub last: usize,
+    pub value: u64,
 }
 
 // The next pairs of an accepted file: 12 where the caller's list has fewer entries than it needs, 18 where there are fewer
 // pairs than lines in it.
 fn next_accepted(
-    file: &[u8],
-    l: Layout,
+    file: &AcceptedFile<'_>,
     room: usize,
     count: u64,
     allowance: u64,
     numbers: &mut [u64],
-) -> CallLines
-    requires { (file_read file.now ≡ Accepted l) × (length numbers.old ≡ most_pair_numbers) }
-    ensures { PairsReady file.now room count allowance numbers.new result }
+) -> Result<CallLines, Refused>
+    requires { length numbers.old ≡ most_pair_numbers }
+    ensures { PairsReady file.now.bytes.now room count allowance numbers.new result }
 {
-    if room < entries_for(l.positions) {
-        return CallLines::NoLines(Refusal::ListTooShort, 0);
+    if room < entries_for(file.layout.positions) {
+        return Err(Refusal::ListTooShort.into());
     }
-    let listed = list_pairs(file, l, count, allowance, numbers);
+    let listed = list_pairs(file, count, allowance, numbers);
     let first = listed.first;
     if (first as u64) < count {
-        return CallLines::NoLines(Refusal::NotFirstPairs, 0);
+        return Err(Refusal::NotFirstPairs.into());
     }
     let pairs = listed.pairs;
     let made = pairs.count - first;
-    CallLines::Lines(first, pairs.count, made as u64)
+    Ok(CallLines {
+        first,
+        last: pairs.count,
+        value: made as u64,
+    })
 }
 
 // The first `count` pairs of a file and the next ones, as many as allowed, for a caller's list of `room` entries; or the
@@ -56,103 +59,93 @@ pub fn next_pairs(
     count: u64,
     allowance: u64,
     numbers: &mut [u64],
-) -> CallLines
+) -> Result<CallLines, Refused>
     requires { length numbers.old ≡ most_pair_numbers }
     ensures { PairsReady file.now room count allowance numbers.new result }
 {
-    match read_file(file) {
-        FileRead::Accepted(l) => next_accepted(file, l, room, count, allowance, numbers),
-        FileRead::Refused(why, at) => CallLines::NoLines(why, at),
-    }
+    let accepted = accept(file)?;
+    next_accepted(&accepted, room, count, allowance, numbers)
 }
 
-// The amount of an accepted file after its first `count` pairs, or 12 or 18.
+// The amount of an accepted file after its first `count` pairs, or 12 or 18. It asks as `next_accepted` does, and answers
+// another list: what they share are calls (d).
 fn amount_accepted(
-    file: &[u8],
-    l: Layout,
+    file: &AcceptedFile<'_>,
     room: usize,
     count: u64,
     numbers: &mut [u64],
-) -> CallLines
-    requires { (file_read file.now ≡ Accepted l) × (length numbers.old ≡ most_numbers) }
-    ensures { AmountReady file.now room count numbers.new result }
+) -> Result<CallLines, Refused>
+    requires { length numbers.old ≡ most_numbers }
+    ensures { AmountReady file.now.bytes.now room count numbers.new result }
 {
-    if room < entries_for(l.positions) {
-        return CallLines::NoLines(Refusal::ListTooShort, 0);
+    if room < entries_for(file.layout.positions) {
+        return Err(Refusal::ListTooShort.into());
     }
-    let listed = list_lines(file, l, count, numbers);
+    let listed = list_lines(file, count, numbers);
     let pairs = listed.first;
     if (pairs as u64) < count {
-        return CallLines::NoLines(Refusal::NotFirstPairs, 0);
+        return Err(Refusal::NotFirstPairs.into());
     }
     let t = listed.lines;
-    let amount = t.total + premium_sum(file, l);
-    CallLines::Lines(pairs, pairs, amount)
+    let amount = t.total + premium_sum(file);
+    Ok(CallLines {
+        first: pairs,
+        last: pairs,
+        value: amount,
+    })
 }
 
 // The first `count` pairs of a file and the amount after them, or the refusal as for the next pairs.
-pub fn amount_after(file: &[u8], room: usize, count: u64, numbers: &mut [u64]) -> CallLines
+pub fn amount_after(
+    file: &[u8],
+    room: usize,
+    count: u64,
+    numbers: &mut [u64],
+) -> Result<CallLines, Refused>
     requires { length numbers.old ≡ most_numbers }
     ensures { AmountReady file.now room count numbers.new result }
 {
-    match read_file(file) {
-        FileRead::Accepted(l) => amount_accepted(file, l, room, count, numbers),
-        FileRead::Refused(why, at) => CallLines::NoLines(why, at),
-    }
+    let accepted = accept(file)?;
+    amount_accepted(&accepted, room, count, numbers)
 }
 
 // With how many lines the list must begin: none on a refusal.
-pub fn lines_compared(ready: CallLines) -> usize
+pub fn lines_compared(ready: Result<CallLines, Refused>) -> usize
     ensures { result ≡ start ready }
 {
-    match ready {
-        CallLines::Lines(first, _, _) => first,
-        CallLines::NoLines(_, _) => 0,
-    }
+    ready.map_or(0, |lines| lines.first)
 }
 
 // With how many lines the list begins after the call: where it does not begin with those that it must, none are written.
-pub fn lines_after(ready: CallLines, same: bool) -> usize
+pub fn lines_after(ready: Result<CallLines, Refused>, same: bool) -> usize
     ensures { result ≡ end ready same }
 {
     match ready {
-        CallLines::Lines(first, last, _) => {
-            if same {
-                return last;
-            }
-            first
-        }
-        CallLines::NoLines(_, _) => 0,
+        Ok(lines) if same => lines.last,
+        Ok(lines) => lines.first,
+        Err(_) => 0,
     }
 }
 
 // What taking apart the latest `k` of these lines answers: 18 where the list begins with others, then 19 where there are
 // fewer.
-pub fn taken_apart(ready: CallLines, same: bool, k: u64) -> ApartAnswer
+pub fn taken_apart(ready: Result<CallLines, Refused>, same: bool, k: u64) -> Result<usize, Refused>
     ensures { result ≡ apart_by ready same k }
 {
-    match ready {
-        CallLines::Lines(count, _, _) => {
-            if !same {
-                return ApartAnswer::NotTakenApart(Refusal::NotFirstPairs, 0);
-            }
-            let there = count as u64;
-            if there < k {
-                return ApartAnswer::NotTakenApart(Refusal::AboveCount, 0);
-            }
-            let left = there - k;
-            ApartAnswer::TakenApart(left as usize)
-        }
-        CallLines::NoLines(why, row) => ApartAnswer::NotTakenApart(why, row),
+    let there = ready?.first as u64;
+    if !same {
+        return Err(Refusal::NotFirstPairs.into());
     }
+    if there < k {
+        return Err(Refusal::AboveCount.into());
+    }
+    let left = there - k;
+    Ok(left as usize)
 }
 
 // How many of `n` lines stay: all on a refusal.
-pub fn lines_kept(answer: ApartAnswer, n: usize) -> usize
+pub fn lines_kept(answer: Result<usize, Refused>, n: usize) -> usize
     ensures { result ≡ kept_of answer n }
 {
-    match answer {
-        ApartAnswer::TakenApart(left) => left,
-        ApartAnswer::NotTakenApart(_, _) => n,
-    }
+    answer.unwrap_or(n)
 }

@@ -20,8 +20,8 @@ use Rattle.rules.specs.declared.Barrier.{Barrier}
 use Rattle.rules.specs.declared.Barrier.TheVariants.{NoBarrier, UpIn, DownIn, UpOut, DownOut}
 use Rattle.rules.specs.declared.Position.{Position}
 use Rattle.rules.specs.declared.Series.{Series}
-use Rattle.rules.specs.declared.Spread.TheVariants.{Margin}
 use Rattle.rules.specs.declared.Terms.{Terms}
+use Rattle.std.specs.Prelude.{Some}
 
 kind_family : ℕ → ℕ
 kind_family k = cond (eqb k 0) 0 (cond (eqb k 3) 1 (cond (eqb k 4) 2 3))
@@ -49,7 +49,7 @@ unfolding family
 family_most p = barrier_most (normal p).barrier
 
 -- A barrier whose own rule gives a margin is no knock-in.
-no_knock_in : (b : Barrier) (x u : ℕ) (s : Series) (h w : Terms) → one_kind_spread b x s h w ≡ Margin u → barrier_family b ≡ 3 → w.pe ≡ h.pe
+no_knock_in : (b : Barrier) (x u : ℕ) (s : Series) (h w : Terms) → one_kind_spread b x s h w ≡ Some u → barrier_family b ≡ 3 → w.pe ≡ h.pe
 no_knock_in NoBarrier x u s h w e f = absurd (omega arith)
 no_knock_in (UpIn p) x u s h w e f = barred u e
 no_knock_in (DownIn p) x u s h w e f = barred u e
@@ -67,10 +67,10 @@ module _ (s : Series) (h w : Terms) (u : ℕ) where
       (ap (λ (t : Terms). barrier_family t.barrier) n, λ q. ap (λ (t : Terms). t.pe) n)
 
   unlike : eqb (kind_of h.barrier) (kind_of w.barrier) ≡ true
-      → one_kind_spread w.barrier (price_of h.barrier) s h w ≡ Margin u → OneFamily
+      → one_kind_spread w.barrier (price_of h.barrier) s h w ≡ Some u → OneFamily
   unlike k e = (sym (one_kind h.barrier w.barrier k), no_knock_in w.barrier (price_of h.barrier) u s h w e)
 
-  terms_family : spread_between s h w ≡ Margin u → OneFamily
+  terms_family : spread_between s h w ≡ Some u → OneFamily
   terms_family e = ⊎_elim alike (λ t. unlike t.1 t.2) (spread_made s h w u e)
 
 -- Two rows that may pair.

@@ -7,9 +7,10 @@ use mathlib.Core.Logic.{◌⊎◌, inl, inr}
 use mathlib.Core.Path.{◌≡◌, refl, sym, ap, ap₂, ◌∙◌}
 use native.Mathlib.Omega.{arith}
 use lib.Dec.{eqb}
-use lib.ListN.{length, length-set, set}
+use lib.ListN.{length, length-set, set, take}
 use lib.Seq.{get_or-set_other, get_or-set_same}
 use borrow.Author.Tests.{eq-eqb, ne_eqb}
+use Rattle.std.proofs.lemmas.List.{get_or-take, length-take-le}
 use Rattle.lanes.proofs.FileFacts.{Ranged, row_range}
 use Rattle.lanes.proofs.MarkLaws.{mark_from_lem, mark_most, mark_role}
 use Rattle.lanes.specs.Keys.{LeastKey, Links, fits_lanes, from, in_lanes, is_linked, key, last, pairs_as_held, pairs_as_written}
@@ -38,7 +39,7 @@ least_alike keys keys' n lo lo' y y' same e q f =
 
 -- The sorted keys of rows with one role.
 module _ (table : List ℕ) (role : ℕ) (keys : List ℕ) (n p : ℕ) (few : p ≤ 256) (f : Sorted table role keys n p) where
-  pub sorted_ordered : ((r : ℕ) → r < p → nth table r ≤ last) → n ≤ length keys → Ordered keys n
+  sorted_ordered : ((r : ℕ) → r < p → nth table r ≤ last) → n ≤ length keys → Ordered keys n
   sorted_ordered small room =
       record {
         room = room;
@@ -65,9 +66,30 @@ module _ (table : List ℕ) (role : ℕ) (keys : List ℕ) (n p : ℕ) (few : p 
         few = f.few;
       }
 
+  -- The same of the slice of them.
+  pub sorted_taken : n ≤ length keys → Sorted table role (take n keys) (length (take n keys)) p
+  sorted_taken room =
+      rw (length-take-le n keys room)
+      (record {
+        ascending = λ i j l b. omega (arith, is i (omega arith), is j b, f.ascending i j l b);
+        apart = λ i j l b e. f.apart i j l b (omega (arith, is i (omega arith), is j b, e));
+        has = λ r l e. let k = f.has r l e in (k.0, k.1, is k.0 k.1 ∙ k.2);
+        only = λ j l. let k = f.only j l in (k.0, k.1, k.2, is j l ∙ k.3);
+        few = f.few;
+      })
+    where
+      is : (i : ℕ) → i < n → nth (take n keys) i ≡ nth keys i
+      is i l = get_or-take n keys i 0 l
+
   -- The row of a key.
   key_row : (j : ℕ) → j < n → (r : ℕ) × (r < p) × (nth table r % 256 ≡ role) × (nth keys j % 256 ≡ r)
   key_row j l = let k = f.only j l in (k.0, k.1, k.2, omega (arith, k.1, k.3))
+
+-- Their slice has what links rest on.
+pub taken_ordered : (table : List ℕ) (role : ℕ) (keys : List ℕ) (n p : ℕ) → p ≤ 256 → Sorted table role keys n p
+    → ((r : ℕ) → r < p → nth table r ≤ last) → n ≤ length keys → Ordered (take n keys) (length (take n keys))
+taken_ordered table role keys n p few f small room =
+    sorted_ordered table role (take n keys) (length (take n keys)) p few (sorted_taken table role keys n p few f room) small (omega arith)
 
 -- A key as either lane has it, by the mark x of its row r.
 lane_key_is : (o x r : ℕ) → r < 256 → lane_key o (mark_place x + r) ≡ mark_from o x + r

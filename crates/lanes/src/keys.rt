@@ -8,19 +8,19 @@ use crate::UP;
 use position::quantities::normalised;
 use rules::{Barrier, Position, Side};
 
-// What stands for no key, no rank and no distance.
+// What stands for no key, no rank and no distance. A number and no Option: the tree is of numbers, and `LeastKey` says it (a).
 pub const NONE: u64 = 1_152_921_504_606_846_976;
 
 // Where the down lane counts from.
 pub const LAST: u64 = 281_474_976_710_656;
 
+// Families and roles are numbers: a mark has them in one number, `Marks.mark_of` (a).
 fn barrier_family(b: Barrier) -> u64
     ensures { result ≡ barrier_family b }
 {
     match b {
         Barrier::NoBarrier => 0,
-        Barrier::UpIn(_) => 3,
-        Barrier::DownIn(_) => 3,
+        Barrier::UpIn(_) | Barrier::DownIn(_) => 3,
         Barrier::UpOut(_) => 1,
         Barrier::DownOut(_) => 2,
     }
@@ -30,9 +30,7 @@ fn barrier_family(b: Barrier) -> u64
 fn family_of(p: Position) -> u64
     ensures { (result ≡ family p) × (result ≤ 3) }
 {
-    let n = normalised(p);
-    let barrier = n.barrier;
-    barrier_family(barrier)
+    barrier_family(normalised(p).barrier)
 }
 
 fn held_role(fits: bool) -> u64
@@ -62,8 +60,7 @@ fn role_of(fits: bool, p: Position) -> u64
     ensures { (result ≡ role_of fits p) × (result ≤ 2) }
 {
     if may_be_paired(p) {
-        let side = p.side;
-        return side_role(fits, side);
+        return side_role(fits, p.side);
     }
     2
 }
@@ -83,7 +80,7 @@ pub fn mark_place(x: u64) -> u64
     x / 256 * 256
 }
 
-// The place of a mark as the lane counts it.
+// The place of a mark as the lane counts it. A lane is the column of its links, `up_lane` or `down_lane` (a: `Marks.mark_from`).
 pub fn mark_from(o: usize, x: u64) -> u64
     requires { x ≤ last }
     ensures { result ≡ mark_from o x }

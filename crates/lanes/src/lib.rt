@@ -9,7 +9,8 @@ pub mod table;
 use rules::MOST_POSITIONS;
 
 // The columns of the table, a number of each row in each: the marks from 0 on, the links of the up and the down lane, the
-// unit margins, and the lines of rows with the same terms. In contracts `up_lane` and so on.
+// unit margins, and the lines of rows with the same terms. In contracts `up_lane` and so on. Columns of one list, and no list of
+// structs: `Keys.Links`, `Marks.Table` and what rests on them name the columns (a).
 pub const UP: usize = MOST_POSITIONS;
 
 pub const DOWN: usize = 2 * MOST_POSITIONS;

@@ -15,10 +15,8 @@ pub fn agree(lines: &[Line], n: usize, numbers: &[u64]) -> bool
     ensures { result ≡ begins_with (lines_from numbers.now n) lines.now }
 {
     let mut same = true;
-    let mut i: usize = 0;
-    while i < n {
+    for i in 0..n {
         same = same_too(same, numbers, i, lines[i]);
-        i += 1;
     }
     same
 }
@@ -28,10 +26,7 @@ pub fn write_entries(lines: &mut [Line], from: usize, n: usize, numbers: &[u64])
     requires { (from ≤ n) × (n ≤ length lines.old) × (numbers_per_line * n ≤ length numbers.now) }
     ensures { lines.new ≡ entries_written numbers.now from n lines.old }
 {
-    let mut i: usize = from;
-    while i < n {
-        let line = line_at(numbers, i);
-        lines[i] = line;
-        i += 1;
+    for i in from..n {
+        lines[i] = line_at(numbers, i);
     }
 }

@@ -1,11 +1,11 @@
 -- Lines as plain numbers: three to a line, one line after the other. The first number has the kind and the second and third
 -- number of document 01's five, which are small; the other two are its fourth and fifth.
-use Rattle.std.specs.Prelude.{ℕ, zero, suc, ◌+◌, ◌*◌, ◌/◌, ◌%◌, ◌≤◌, ◌<◌, List, [], ◌∷◌, ◌++◌, ◌≡◌, get_or}
+use Rattle.std.specs.Prelude.{ℕ, zero, suc, ◌+◌, ◌*◌, ◌/◌, ◌%◌, ◌≤◌, ◌<◌, List, [], ◌∷◌, ◌++◌, ◌≡◌, get_or, Result, Ok, Err}
 use Rattle.rules.specs.Limits.{most_positions}
 use Rattle.rules.specs.Lines.{most_lines}
 use Rattle.rules.specs.declared.Line.{Line}
-use Rattle.rules.specs.declared.MarginAnswer.{MarginAnswer}
-use Rattle.rules.specs.declared.MarginAnswer.TheVariants.{Total, NoTotal}
+use Rattle.rules.specs.declared.Refused.{Refused}
+use Rattle.rules.specs.declared.Tally.{Tally}
 
 -- The numbers of one line, those of as many lines as an account has at most, and of as many as it has pairs at most: there are
 -- fewer pairs than positions, or none (`Counts.made_below`).
@@ -45,9 +45,9 @@ lines_from numbers zero = []
 lines_from numbers (suc n) = lines_from numbers n ++ (line_from numbers n ∷ [])
 
 -- How many lines an answer has.
-abbrev pub line_count : MarginAnswer → ℕ
-line_count (Total n t) = n
-line_count (NoTotal w i) = 0
+abbrev pub line_count : Result Tally Refused → ℕ
+line_count (Ok margin) = margin.count
+line_count (Err refusal) = 0
 
 -- What writing line k leaves: that line, and the numbers before and after it as they were.
 pub record LineWritten (k : ℕ) (line : Line) (old new : List ℕ) : Type 0 where

@@ -26,7 +26,7 @@ pub fn entries_for(p: usize) -> usize
     2 * p
 }
 
-// Line i of the numbers.
+// Line i of the numbers. Three plain numbers to a line: document 01 has lines written "after the core over plain numbers" (a).
 pub fn line_at(numbers: &[u64], i: usize) -> Line
     requires { numbers_per_line * i + numbers_per_line ≤ length numbers.now }
     ensures { result ≡ line_from numbers.now i }
@@ -47,13 +47,7 @@ pub fn same_too(before: bool, numbers: &[u64], i: usize, line: Line) -> bool
     requires { numbers_per_line * i + numbers_per_line ≤ length numbers.now }
     ensures { result ≡ (before && same_line (line_from numbers.now i) line) }
 {
-    let own = line_at(numbers, i);
-    let same = (own.kind == line.kind)
-        & (own.secondNumber == line.secondNumber)
-        & (own.thirdNumber == line.thirdNumber)
-        & (own.fourthNumber == line.fourthNumber)
-        & (own.fifthNumber == line.fifthNumber);
-    before & same
+    before & (line_at(numbers, i) == line)
 }
 
 // Line k written as three numbers.

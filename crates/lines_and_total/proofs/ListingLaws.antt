@@ -15,7 +15,7 @@ use Rattle.lines.proofs.LinesHeld.{lines_more, lines_same}
 use Rattle.lines.specs.LineNumbers.{LineWritten, lines_from}
 use Rattle.numbers.specs.Lists.{nth}
 use Rattle.lines_and_total.specs.Listing.{Added, RowAsked, RowsAsked, left_of, shown_left}
-use Rattle.pairing.specs.declared.Tally.{Tally}
+use Rattle.rules.specs.declared.Tally.{Tally}
 use Rattle.rules.proofs.LineLaws.{length-left_lines}
 use Rattle.rules.proofs.Sums.{sum_over-append, sum_to_more}
 use Rattle.rules.specs.File.{Account, account_of}

@@ -3,7 +3,7 @@
 -- Assumes nothing.
 use Prim.Native.Nat.{ℕ, ◌+◌, ◌*◌, ◌-◌, ◌≤◌, ◌<◌, min}
 use mathlib.Core.List.{List, ◌++◌}
-use mathlib.Core.Path.{◌≡◌, sym, ap, ap₂, subst, ◌∙◌}
+use mathlib.Core.Path.{◌≡◌, refl, sym, ap, ap₂, subst, ◌∙◌}
 use native.Mathlib.Nat.{add-zero}
 use native.Mathlib.Omega.{arith}
 use lib.ListN.{length, take, length-append, replicate, get_or-replicate, length-replicate}
@@ -14,7 +14,7 @@ use Rattle.account.specs.Known.{Known}
 use Rattle.numbers.specs.Lists.{nth}
 use Rattle.pairing.specs.Pairing.{PairedBy, PairedUp, PairingAsked}
 use Rattle.pairing.specs.declared.Instalment.{Instalment}
-use Rattle.pairing.specs.declared.Tally.{Tally}
+use Rattle.rules.specs.declared.Tally.{Tally}
 use Rattle.lines.proofs.LinesHeld.{take-lines}
 use Rattle.lines.specs.LineNumbers.{lines_from, most_numbers, most_pair_numbers}
 use Rattle.lines_and_total.proofs.ListingLaws.{left_same}
@@ -29,16 +29,17 @@ use Rattle.rules.proofs.MayPair.{apart}
 use Rattle.rules.proofs.Rounds.{left_falls}
 use Rattle.rules.proofs.Sums.{sum_over-append, sum_to_under}
 use Rattle.rules.specs.File.{account_of}
-use Rattle.rules.specs.Lines.{entries_for, left_lines, left_with_blocked, line_amount, lines, lines_after, pair_lines, premium_answer, premiums, premiums_of, sum_over, total}
+use Rattle.rules.specs.Lines.{comes_to, entries_for, left_lines, left_with_blocked, line_amount, lines, lines_after, pair_lines, premium_answer, premiums, premiums_of, sum_over, total}
 use Rattle.rules.specs.Pairs.{available, book_of, pairs_after}
-use Rattle.rules.specs.Refusals.{file_read}
-use Rattle.rules.specs.declared.FileRead.{FileRead}
-use Rattle.rules.specs.declared.FileRead.TheVariants.{Accepted, Refused}
+use Rattle.rules.specs.Refusals.{file_read, refused_at}
 use Rattle.rules.specs.declared.Layout.{Layout}
 use Rattle.rules.specs.declared.Line.{Line}
-use Rattle.rules.specs.declared.MarginAnswer.TheVariants.{NoTotal, Total}
 use Rattle.rules.specs.declared.Refusal.{Refusal}
 use Rattle.rules.specs.declared.Refusal.TheVariants.{ListTooShort}
+use Rattle.std.specs.Prelude.{Result, Ok, Err}
+use Rattle.std.specs.Result.{result_unwrap_or}
+use Rattle.rules.specs.declared.Refused.{Refused}
+use Rattle.rules.specs.declared.Tally.{Tally}
 
 pub pairing_asks : (b : List ℕ) (l : Layout) (left numbers : List ℕ) → Known b l → length left ≡ 256 → most_pair_numbers ≤ length numbers
     → ContractsTo (account_of b l) left l.positions → PairingAsked b l (replicate 1280 0) left numbers
@@ -133,49 +134,54 @@ account_listed b l n table left numbers numbers' r t k en up f =
       numbers_length = f.numbers_length ∙ en;
     }
 
-pub premium_answered : (b : List ℕ) (x : FileRead) → file_read b ≡ x → premium_answer b ≡ premiums_of b x
+pub premium_answered : (b : List ℕ) (x : Result Layout Refused) → file_read b ≡ x → premium_answer b ≡ premiums_of b x
 unfolding premium_answer
 premium_answered b x e = ap (premiums_of b) e
 
-pub premiums_read : (b : List ℕ) (x : FileRead) → file_read b ≡ x → premiums_for b (file_read b) ≡ premiums_for b x
-premiums_read b x e = ap (premiums_for b) e
+-- The premiums of a file, 0 where it is refused.
+pub premiums_or_none : (b : List ℕ) → result_unwrap_or (premium_answer b) 0 ≡ premiums_for b (file_read b)
+premiums_or_none b = ap (λ (x : Result ℕ Refused). result_unwrap_or x 0) (premium_answered b (file_read b) refl) ∙ by_reading (file_read b)
+  where
+    by_reading : (x : Result Layout Refused) → result_unwrap_or (premiums_of b x) 0 ≡ premiums_for b x
+    by_reading (Err refusal) = refl
+    by_reading (Ok l) = refl
 
 module _ (b : List ℕ) (room : ℕ) (numbers : List ℕ) (en : length numbers ≡ most_numbers) where
-  pub settled_refused : (w : Refusal) (i : ℕ) → file_read b ≡ Refused w i → Settled b room numbers (NoTotal w i)
+  pub settled_refused : (w : Refusal) (i : ℕ) → file_read b ≡ refused_at w i → Settled b room numbers (refused_at w i)
   unfolding lines_from
   settled_refused w i e =
       record {
-        answer_is = sym (answer_read_lem b room (Refused w i) e);
-        lines_are = sym (given_read b room (Refused w i) e);
+        answer_is = sym (answer_read_lem b room (refused_at w i) e);
+        lines_are = sym (given_read b room (refused_at w i) e);
         count_most = omega arith;
         count_small = omega arith;
         numbers_length = en;
       }
 
-  module _ (l : Layout) (e : file_read b ≡ Accepted l) where
+  module _ (l : Layout) (e : file_read b ≡ Ok l) where
     -- Refusal 12: "given below 2 × p entries".
-    pub settled_short : room < entries_for l.positions → Settled b room numbers (NoTotal ListTooShort 0)
+    pub settled_short : room < entries_for l.positions → Settled b room numbers (refused_at ListTooShort 0)
     unfolding lines_from
     settled_short h =
         let t = lt-ltb room (entries_for l.positions) h in
         record {
-          answer_is = rw (answer_read_lem b room (Accepted l) e, t);
-          lines_are = rw (given_read b room (Accepted l) e, t);
+          answer_is = rw (answer_read_lem b room (Ok l) e, t);
+          lines_are = rw (given_read b room (Ok l) e, t);
           count_most = omega arith;
           count_small = omega arith;
           numbers_length = en;
         }
 
     pub settled_total : (n : ℕ) (r : Listed) → entries_for l.positions ≤ room → AccountListed (account_of b l) l.positions numbers r → n ≡ premiums (account_of b l)
-        → Settled b room numbers (Total r.lines.count (r.lines.total + n))
+        → Settled b room numbers (comes_to r.lines.count (r.lines.total + n))
     unfolding total lines
     settled_total n r h f en' =
         let a = account_of b l in
         let s = le-ltb room (entries_for l.positions) h in
         let few : length (lines a) ≤ 2 * l.positions - 1 = rw (lines_are a) (line_count_lem a l.positions) in
         record {
-          answer_is = rw (answer_read_lem b room (Accepted l) e, s) (ap₂ Total f.count_is (ap₂ (λ x y. x + y) f.total_is en'));
-          lines_are = rw (given_read b room (Accepted l) e, s) f.lines_are;
+          answer_is = rw (answer_read_lem b room (Ok l) e, s) (ap₂ comes_to f.count_is (ap₂ (λ x y. x + y) f.total_is en'));
+          lines_are = rw (given_read b room (Ok l) e, s) f.lines_are;
           count_most = omega (arith, f.count_is, few);
           count_small = omega (arith, f.count_is, few, (known b l e).placed.positions_most);
           numbers_length = en;

@@ -7,7 +7,7 @@ use Rattle.numbers.specs.Lists.{nth}
 use Rattle.lines.specs.LineNumbers.{lines_from, most_numbers, most_pair_numbers}
 use Rattle.lines_and_total.specs.declared.Listed.{Listed}
 use Rattle.pairing.specs.declared.Instalment.{Instalment}
-use Rattle.pairing.specs.declared.Tally.{Tally}
+use Rattle.rules.specs.declared.Tally.{Tally}
 use Rattle.position.specs.Fits.{RowFits}
 use Rattle.rules.specs.File.{Account, account_of, series_of_row}
 use Rattle.rules.specs.Lines.{left_line, line_amount, lines_after, most_lines, pair_lines, sum_over, sum_to}

@@ -7,14 +7,13 @@ ghost use Rattle.lines_and_total.specs.Settled.{Settled};
 ghost use Rattle.rules.specs.Lines.{premium_answer};
 ghost use Rattle.rules.specs.Output.{premiums_for};
 ghost use Rattle.rules.specs.Refusals.{file_read};
-ghost use Rattle.rules.specs.declared.FileRead.TheVariants.{Accepted};
 
 use crate::listing::list_lines;
 use crate::premium::premium_sum;
-use account::reader::read_file;
+use account::accepted::AcceptedFile;
+use account::lookup::accept;
 use lines::entries_for;
-use pairing::Tally;
-use rules::{AmountAnswer, FileRead, Layout, MarginAnswer, Refusal};
+use rules::{Refusal, Refused, Tally};
 
 pub mod contracts;
 pub mod left;
@@ -29,56 +28,53 @@ pub struct Listed {
 }
 
 // The account of an accepted file, or refusal 12 where the caller's list has fewer entries than it needs.
-fn settle_accepted(file: &[u8], l: Layout, room: usize, numbers: &mut [u64]) -> MarginAnswer
-    requires { (file_read file.now ≡ Accepted l) × (length numbers.old ≡ most_numbers) }
-    ensures { Settled file.now room numbers.new result }
+fn settle_accepted(
+    file: &AcceptedFile<'_>,
+    room: usize,
+    numbers: &mut [u64],
+) -> Result<Tally, Refused>
+    requires { length numbers.old ≡ most_numbers }
+    ensures { Settled file.now.bytes.now room numbers.new result }
 {
-    if room < entries_for(l.positions) {
-        return MarginAnswer::NoTotal(Refusal::ListTooShort, 0);
+    if room < entries_for(file.layout.positions) {
+        return Err(Refusal::ListTooShort.into());
     }
-    let listed = list_lines(file, l, l.positions as u64, numbers);
+    let listed = list_lines(file, file.layout.positions as u64, numbers);
     let t = listed.lines;
-    let total = t.total + premium_sum(file, l);
-    MarginAnswer::Total(t.count, total)
+    let total = t.total + premium_sum(file);
+    Ok(Tally {
+        count: t.count,
+        total,
+    })
 }
 
 // The lines and the total of a file, for a caller's list of `room` entries, or the refusal: the reading's first, then 12.
-pub fn settle(file: &[u8], room: usize, numbers: &mut [u64]) -> MarginAnswer
+pub fn settle(file: &[u8], room: usize, numbers: &mut [u64]) -> Result<Tally, Refused>
     requires { length numbers.old ≡ most_numbers }
     ensures { Settled file.now room numbers.new result }
 {
-    match read_file(file) {
-        FileRead::Accepted(l) => settle_accepted(file, l, room, numbers),
-        FileRead::Refused(why, at) => MarginAnswer::NoTotal(why, at),
-    }
+    let accepted = accept(file)?;
+    settle_accepted(&accepted, room, numbers)
 }
 
 // How many lines an answer has.
-pub fn line_count(answer: MarginAnswer) -> usize
+pub fn line_count(answer: Result<Tally, Refused>) -> usize
     ensures { result ≡ line_count answer }
 {
-    match answer {
-        MarginAnswer::Total(count, _) => count,
-        MarginAnswer::NoTotal(_, _) => 0,
-    }
+    answer.map_or(0, |margin| margin.count)
 }
 
 // The premiums of a file's held rows, or its refusal.
-pub fn premium_answer(file: &[u8]) -> AmountAnswer
+pub fn premium_answer(file: &[u8]) -> Result<u64, Refused>
     ensures { result ≡ premium_answer file.now }
 {
-    match read_file(file) {
-        FileRead::Accepted(l) => AmountAnswer::Amount(premium_sum(file, l)),
-        FileRead::Refused(why, at) => AmountAnswer::NoAmount(why, at),
-    }
+    let accepted = accept(file)?;
+    Ok(premium_sum(&accepted))
 }
 
 // The premiums of a file's held rows, 0 where it is refused.
 pub fn premium_total(file: &[u8]) -> u64
     ensures { result ≡ premiums_for file.now (file_read file.now) }
 {
-    match read_file(file) {
-        FileRead::Accepted(l) => premium_sum(file, l),
-        FileRead::Refused(_, _) => 0,
-    }
+    premium_answer(file).unwrap_or(0)
 }

@@ -50,13 +50,13 @@ below_pv pv state h = mod-lt state (omega arith)
 
 -- ---- barrier and rebate, from the state t
 
-pub no_barrier : (kind pv t : ℕ) → kind ≡ 0 → t < modulus → BarrierIs kind pv t (record { price = 0; reb = 0; state = t })
+pub no_barrier : (kind pv t : ℕ) → kind ≡ 0 → t < modulus → BarrierIs kind pv t (record { row = record { price = 0; reb = 0 }; state = t })
 no_barrier kind pv t e is =
     let none = eq-eqb kind 0 e in
     record { price_is = rw none; reb_is = rw none; state_is = rw none; is_state = is }
 
 pub with_barrier : (kind pv t t1 t2 price : ℕ) → (kind ≡ 0 → ⊥) → t1 ≡ next_state t → t2 ≡ next_state t1 → price ≡ barrier_by kind pv t1
-    → t2 < modulus → BarrierIs kind pv t (record { price = price; reb = t2 % 100; state = t2 })
+    → t2 < modulus → BarrierIs kind pv t (record { row = record { price = price; reb = t2 % 100 }; state = t2 })
 with_barrier kind pv t t1 t2 price some e1 e2 is-price is =
     let none = ne_eqb kind 0 some in
     record {

@@ -12,17 +12,18 @@ use lib.Dec.{ltb}
 use lib.ListN.{drop, length}
 use Rattle.load.proofs.DrawLaws.{ranges_kept}
 use Rattle.load.specs.Load.{LoadWithin, NoLoad, buffer_after, load_answer, load_file, load_size, most_seed, p_above, p_zero, room_below, seed_above, seed_zero, wrong_load}
-use Rattle.load.specs.declared.LoadAnswer.{LoadAnswer}
-use Rattle.load.specs.declared.LoadAnswer.TheVariants.{Made, NotMade}
 use Rattle.rules.proofs.Tests.{lt_or_ge, neither}
 use Rattle.rules.specs.Limits.{most_positions}
-use Rattle.rules.specs.Refusals.{number, outside}
+use Rattle.rules.proofs.SameAnswers.{same_refused}
+use Rattle.rules.specs.Refusals.{number, outside, refused_at}
 use Rattle.rules.specs.declared.Refusal.{Refusal}
 use Rattle.rules.specs.declared.Refusal.TheVariants.{LoadAskedFor}
+use Rattle.std.specs.Prelude.{Result, Ok}
+use Rattle.rules.specs.declared.Refused.{Refused}
 
 -- Answer and buffer by the test of refusal 20.
-abbrev answer_for : Bool → ℕ → LoadAnswer
-answer_for wrong p = cond wrong (NotMade LoadAskedFor 0) (Made (load_size p))
+abbrev answer_for : Bool → ℕ → Result ℕ Refused
+answer_for wrong p = cond wrong (refused_at LoadAskedFor 0) (Ok (load_size p))
 
 abbrev buffer_for : Bool → ℕ → ℕ → List ℕ → List ℕ
 buffer_for wrong seed p b = cond wrong b (load_file seed p ++ drop (load_size p) b)
@@ -82,30 +83,28 @@ module _ (seed p room : ℕ) where
   answer_by_lem t e = ap (λ (x : Bool). answer_for x p) e
 
   -- What is answered where all is within its limits, and where it is not.
-  pub made : LoadWithin seed p room → load_answer seed p room ≡ Made (load_size p)
+  pub made : LoadWithin seed p room → load_answer seed p room ≡ Ok (load_size p)
   made w = answer_by_lem false (within_passes w)
 
-  pub not_made : NoLoad seed p room → load_answer seed p room ≡ NotMade LoadAskedFor 0
+  pub not_made : NoLoad seed p room → load_answer seed p room ≡ refused_at LoadAskedFor 0
   not_made n = answer_by_lem true (none_stops n)
 
   -- The same the other way round: nothing else is answered.
-  pub made_within : (n : ℕ) → load_answer seed p room ≡ Made n → LoadWithin seed p room × (n ≡ load_size p)
+  pub made_within : (n : ℕ) → load_answer seed p room ≡ Ok n → LoadWithin seed p room × (n ≡ load_size p)
   made_within n e = go load_or_not
     where
       go : LoadWithin seed p room ⊎ NoLoad seed p room → LoadWithin seed p room × (n ≡ load_size p)
       go (inl w) = (w, let q = made w in cc)
       go (inr none) = let q = not_made none in let z : ◌≡◌ {A = ℕ} 0 1 = cc in absurd (omega arith)
 
-  pub refused_for : (w : Refusal) (row : ℕ) → load_answer seed p room ≡ NotMade w row → NoLoad seed p room × (number w ≡ 20) × (row ≡ 0)
+  pub refused_for : (w : Refusal) (row : ℕ) → load_answer seed p room ≡ refused_at w row → NoLoad seed p room × (number w ≡ 20) × (row ≡ 0)
   refused_for w row e = go load_or_not
     where
       go : LoadWithin seed p room ⊎ NoLoad seed p room → NoLoad seed p room × (number w ≡ 20) × (row ≡ 0)
       go (inl within) = let q = made within in let z : ◌≡◌ {A = ℕ} 0 1 = cc in absurd (omega arith)
       go (inr none) =
-          let q = not_made none in
-          let v : w ≡ LoadAskedFor = cc in
-          let zero : row ≡ 0 = cc in
-          (none, ap number v, zero)
+          let same = same_refused (sym e ∙ not_made none) in
+          (none, ap number same.0, same.1)
 
 -- The buffer b after the call, by the test of refusal 20.
 module _ (seed p : ℕ) (b : List ℕ) where
@@ -121,9 +120,9 @@ module _ (seed p : ℕ) (b : List ℕ) where
 
   -- For code: the two ways through the call, c being the buffer that it leaves.
   module _ (c : List ℕ) where
-    pub call_refused : wrong_load seed p (length b) ≡ true → c ≡ b → (NotMade LoadAskedFor 0 ≡ load_answer seed p (length b)) × (c ≡ buffer_after seed p b)
+    pub call_refused : wrong_load seed p (length b) ≡ true → c ≡ b → (refused_at LoadAskedFor 0 ≡ load_answer seed p (length b)) × (c ≡ buffer_after seed p b)
     call_refused e is = (sym (answer_by_lem seed p (length b) true e), is ∙ sym (buffer_by true e))
 
     pub call_made : wrong_load seed p (length b) ≡ false → c ≡ load_file seed p ++ drop (load_size p) b
-        → (Made (36 + 32 * p) ≡ load_answer seed p (length b)) × (c ≡ buffer_after seed p b)
+        → (Ok (36 + 32 * p) ≡ load_answer seed p (length b)) × (c ≡ buffer_after seed p b)
     call_made e is = (sym (answer_by_lem seed p (length b) false e), is ∙ sym (buffer_by false e))

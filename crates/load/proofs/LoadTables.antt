@@ -6,11 +6,12 @@ use mathlib.Core.List.{List, [], ◌∷◌, ◌++◌}
 use mathlib.Core.Path.{◌≡◌, refl}
 use lib.ListN.{replicate}
 use Rattle.load.specs.Load.{buffer_after, load_answer, load_file, position_drawn, row_drawn, series_drawn, state_after, state_after_row, state_before}
-use Rattle.load.specs.declared.LoadAnswer.TheVariants.{Made, NotMade}
 use Rattle.rules.specs.Writing.{bytes_of_file, bytes_of_position, bytes_of_rows, bytes_of_series, bytes_of_trailer}
 use Rattle.rules.specs.declared.PositionRow.{PositionRow}
 use Rattle.rules.specs.declared.Refusal.TheVariants.{LoadAskedFor}
 use Rattle.rules.specs.declared.SeriesRow.{SeriesRow}
+use Rattle.std.specs.Prelude.{Ok}
+use Rattle.rules.specs.Refusals.{refused_at}
 
 -- "The state goes from t to 48271 × t mod 2147483647"
 pub states :
@@ -92,16 +93,16 @@ bytes_after = (refl, refl, refl, refl)
 
 -- "seed 1 to 2147483646", "p from 1 to 256", "a buffer below 36 + 32 × p bytes": each end, and one beyond it.
 pub answers :
-    (load_answer 1 1 68 ≡ Made 68)
-    × (load_answer 1 1 69 ≡ Made 68)
-    × (load_answer 1 256 8_228 ≡ Made 8_228)
-    × (load_answer 2_147_483_646 1 68 ≡ Made 68)
-    × (load_answer 2_147_483_646 256 8_228 ≡ Made 8_228)
-    × (load_answer 0 1 68 ≡ NotMade LoadAskedFor 0)
-    × (load_answer 2_147_483_647 1 68 ≡ NotMade LoadAskedFor 0)
-    × (load_answer 1 0 68 ≡ NotMade LoadAskedFor 0)
-    × (load_answer 1 257 65_536 ≡ NotMade LoadAskedFor 0)
-    × (load_answer 1 1 67 ≡ NotMade LoadAskedFor 0)
-    × (load_answer 1 256 8_227 ≡ NotMade LoadAskedFor 0)
+    (load_answer 1 1 68 ≡ Ok 68)
+    × (load_answer 1 1 69 ≡ Ok 68)
+    × (load_answer 1 256 8_228 ≡ Ok 8_228)
+    × (load_answer 2_147_483_646 1 68 ≡ Ok 68)
+    × (load_answer 2_147_483_646 256 8_228 ≡ Ok 8_228)
+    × (load_answer 0 1 68 ≡ refused_at LoadAskedFor 0)
+    × (load_answer 2_147_483_647 1 68 ≡ refused_at LoadAskedFor 0)
+    × (load_answer 1 0 68 ≡ refused_at LoadAskedFor 0)
+    × (load_answer 1 257 65_536 ≡ refused_at LoadAskedFor 0)
+    × (load_answer 1 1 67 ≡ refused_at LoadAskedFor 0)
+    × (load_answer 1 256 8_227 ≡ refused_at LoadAskedFor 0)
 unfolding load_answer
 answers = (refl, refl, refl, refl, refl, refl, refl, refl, refl, refl, refl)

@@ -1,15 +1,14 @@
 -- Document 02 [10], A load for the bench: the draws, the rows that they make, the file of these rows, and the lent buffer after
 -- a call.
-use Rattle.std.specs.Prelude.{ℕ, zero, suc, ◌+◌, ◌*◌, ◌-◌, ◌%◌, ◌≤◌, ◌<◌, Bool, cond, ◌||◌, List, ◌++◌, ◌≡◌, eqb, ltb, drop, length, take}
-use Rattle.load.specs.declared.LoadAnswer.{LoadAnswer}
-use Rattle.load.specs.declared.LoadAnswer.TheVariants.{Made, NotMade}
+use Rattle.std.specs.Prelude.{ℕ, zero, suc, ◌+◌, ◌*◌, ◌-◌, ◌%◌, ◌≤◌, ◌<◌, Bool, cond, ◌||◌, List, ◌++◌, ◌≡◌, eqb, ltb, drop, length, take, Result, Ok}
 use Rattle.rules.specs.File.{Account, layout, position_count, position_of, position_row, series_count, series_of, series_row}
 use Rattle.rules.specs.Limits.{most_positions}
-use Rattle.rules.specs.Refusals.{accepted, meaning, outside}
+use Rattle.rules.specs.Refusals.{accepted, meaning, outside, refused_at}
 use Rattle.rules.specs.Writing.{bytes_of_file}
 use Rattle.rules.specs.declared.PositionRow.{PositionRow}
 use Rattle.rules.specs.declared.Refusal.TheVariants.{LoadAskedFor}
 use Rattle.rules.specs.declared.SeriesRow.{SeriesRow}
+use Rattle.rules.specs.declared.Refused.{Refused}
 
 -- "The state goes from t to 48271 × t mod 2147483647"
 abbrev pub modulus : ℕ
@@ -107,8 +106,8 @@ abbrev pub wrong_load : ℕ → ℕ → ℕ → Bool
 wrong_load seed p room = outside 1 most_seed seed || outside 1 most_positions p || ltb room (load_size p)
 
 -- What is answered for a buffer with room for so many bytes: the bytes of the file, or 20 with row 0.
-unfoldable pub load_answer : ℕ → ℕ → ℕ → LoadAnswer
-load_answer seed p room = cond (wrong_load seed p room) (NotMade LoadAskedFor 0) (Made (load_size p))
+unfoldable pub load_answer : ℕ → ℕ → ℕ → Result ℕ Refused
+load_answer seed p room = cond (wrong_load seed p room) (refused_at LoadAskedFor 0) (Ok (load_size p))
 
 -- The lent buffer b after the call: the file, and "Bytes of the lent buffer after the file stay"; on a refusal "nothing is
 -- written".
@@ -149,7 +148,7 @@ pub record ReadsBack (seed p : ℕ) (f : List ℕ) : Type 0 where
 -- read back as the rows drawn.
 abbrev pub AcceptedDemand : ℕ → ℕ → List ℕ → Type 0
 AcceptedDemand seed p b =
-    load_answer seed p (length b) ≡ Made (load_size p)
+    load_answer seed p (length b) ≡ Ok (load_size p)
     → ReadsBack seed p (take (load_size p) (buffer_after seed p b))
     × ((a : Account) × (meaning (take (load_size p) (buffer_after seed p b)) ≡ accepted a) × Drawn seed p a)
 
@@ -157,4 +156,4 @@ AcceptedDemand seed p b =
 pub record StaysDemand (seed p : ℕ) (b : List ℕ) : Type 0 where
   pub same_length : length (buffer_after seed p b) ≡ length b
   pub after_stays : drop (load_size p) (buffer_after seed p b) ≡ drop (load_size p) b
-  pub refused_stays : load_answer seed p (length b) ≡ NotMade LoadAskedFor 0 → buffer_after seed p b ≡ b
+  pub refused_stays : load_answer seed p (length b) ≡ refused_at LoadAskedFor 0 → buffer_after seed p b ≡ b

@@ -6,30 +6,22 @@ ghost use Rattle.load.specs.Rows.{BarrierIs, PositionIs, RowAsked, SeriesIs, bar
 use crate::draws::next_state;
 use rules::{PositionRow, SeriesRow};
 
-// A series row and the state after its draws.
+// A row that was drawn, or what is drawn for one, and the state after its draws.
 #[derive(Clone, Copy)]
-pub struct SeriesState {
-    pub row: SeriesRow,
+pub struct WithState<R> {
+    pub row: R,
     pub state: u64,
 }
 
-// A position row and the state after its draws.
+// The price of a barrier and the rebate, 0 and 0 without one.
 #[derive(Clone, Copy)]
-pub struct PositionState {
-    pub row: PositionRow,
-    pub state: u64,
-}
-
-// The price of a barrier and the rebate, 0 and 0 without one, and the state after their draws.
-#[derive(Clone, Copy)]
-pub struct BarrierState {
+pub struct BarrierDrawn {
     pub price: u32,
     pub reb: u32,
-    pub state: u64,
 }
 
 // The series drawn from a seed.
-pub fn series_drawn(seed: u64) -> SeriesState
+pub fn series_drawn(seed: u64) -> WithState<SeriesRow>
     requires { seed < modulus }
     ensures { SeriesIs seed result }
 {
@@ -47,7 +39,7 @@ pub fn series_drawn(seed: u64) -> SeriesState
         option: (t5 % 2) as u32,
         spare: 0,
     };
-    SeriesState { row, state: t5 }
+    WithState { row, state: t5 }
 }
 
 // The price of a barrier of a kind above 0, by the state of its draw.
@@ -58,32 +50,31 @@ fn barrier_drawn(kind: u64, pv: u32, state: u64) -> u32
     if (kind == 1) | (kind == 3) {
         return pv + 1 + (state % 1_000) as u32;
     }
-    1 + (state % ((pv - 1) as u64)) as u32
+    1 + (state % u64::from(pv - 1)) as u32
 }
 
 // Barrier and rebate of a row of this kind, from the state after its first four draws. Kind 0 draws neither.
-fn barrier_and_rebate(kind: u64, pv: u32, t: u64) -> BarrierState
+fn barrier_and_rebate(kind: u64, pv: u32, t: u64) -> WithState<BarrierDrawn>
     requires { RowAsked pv t }
     ensures { BarrierIs kind pv t result }
 {
     if kind == 0 {
-        return BarrierState {
-            price: 0,
-            reb: 0,
+        return WithState {
+            row: BarrierDrawn { price: 0, reb: 0 },
             state: t,
         };
     }
     let t1 = next_state(t);
     let t2 = next_state(t1);
-    BarrierState {
+    let row = BarrierDrawn {
         price: barrier_drawn(kind, pv, t1),
         reb: (t2 % 100) as u32,
-        state: t2,
-    }
+    };
+    WithState { row, state: t2 }
 }
 
 // A row drawn from the state t, for the series with this PV.
-pub fn position_drawn(pv: u32, t: u64) -> PositionState
+pub fn position_drawn(pv: u32, t: u64) -> WithState<PositionRow>
     requires { RowAsked pv t }
     ensures { PositionIs pv t result }
 {
@@ -102,11 +93,11 @@ pub fn position_drawn(pv: u32, t: u64) -> PositionState
         q: (1 + t3 % 100) as u32,
         pe: (1 + t4 % 10_000) as u32,
         pb: 0,
-        price: barrier.price,
-        reb: barrier.reb,
+        price: barrier.row.price,
+        reb: barrier.row.reb,
         premium: 0,
     };
-    PositionState {
+    WithState {
         row,
         state: barrier.state,
     }

@@ -8,8 +8,7 @@ use rules::MOST_BYTES;
 fn main(rt: HostRuntime) {
     let mut space = [0u8; MOST_BYTES + 1];
     let n = read_full(&mut rt.stdin(), &mut space);
-    let printed = statement::print_margin(&mut rt.stdout(), &space[..n]);
-    if !printed.whole {
-        let _ = rt.eprint("margin: the answer could not be written\n");
+    if statement::print_margin(&mut rt.stdout(), &space[..n]).is_err() {
+        let _ = eprintln!(rt; "margin: the answer could not be written");
     }
 }

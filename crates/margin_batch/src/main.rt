@@ -4,54 +4,47 @@
 // one byte more than a file may have.
 #![tactic(auto)]
 
-ghost use Rattle.std.specs.Prelude.{length, ◌≡◌};
-
-use framing::{Frame, next_file};
+use framing::{CutOff, for_each_file};
 use rules::MOST_BYTES;
-use std::io::{Read, Write};
+use statement::print_margin;
+use std::io::Write;
 
-// Writes one file's margin and an empty line; false where that fails.
-fn report<W: Write>(rt: &impl Eprint, out: &mut W, file: &[u8]) -> bool {
-    let printed = statement::print_margin(out, file);
-    if printed.whole {
-        if out.write_all(b"\n").is_ok() {
-            return true;
-        }
-    }
-    let _ = rt.eprint(
-        "margin_batch: an answer could not be written; it and those of all later accounts are missing\n",
-    );
-    false
+// What ends a run before the input does.
+#[derive(Clone, Copy)]
+enum Stop {
+    CutOff(CutOff),
+    Unwritten,
 }
 
-// Reads and reports one file; false where the input ends or an answer cannot be written.
-fn report_next<R: Read, W: Write>(
-    rt: &impl Eprint,
-    input: &mut R,
-    out: &mut W,
-    space: &mut [u8],
-) -> bool
-    ensures { length space.new ≡ length space.old }
-{
-    match next_file(input, space) {
-        Frame::File(n) => report(rt, out, &space[..n]),
-        Frame::CutOff => {
-            let _ = out.write_all(b"the last account is cut off\n");
-            false
-        }
-        Frame::End => false,
+impl From<CutOff> for Stop {
+    fn from(cut_off: CutOff) -> Stop {
+        Stop::CutOff(cut_off)
     }
+}
+
+// Writes one file's margin and an empty line.
+fn report<W: Write>(out: &mut W, file: &[u8]) -> Result<(), Stop> {
+    print_margin(out, file).map_err(|_| Stop::Unwritten)?;
+    out.write_all(b"\n").map_err(|_| Stop::Unwritten)
 }
 
 fn main(rt: HostRuntime) {
-    let mut input = rt.stdin();
     let mut out = rt.stdout();
     let mut space = [0u8; MOST_BYTES + 1];
-    let mut files: u32 = 0;
-    while files < 1_000_000_000 {
-        if !report_next(&rt, &mut input, &mut out, &mut space) {
-            return;
+    let run = for_each_file(
+        &mut rt.stdin(),
+        &mut space,
+        &mut |file| report(&mut out, file),
+    );
+    match run {
+        Ok(()) => {}
+        Err(Stop::CutOff(cut_off)) => {
+            let _ = println!(rt; "the last account is {cut_off}");
         }
-        files += 1;
+        Err(Stop::Unwritten) => {
+            let _ = eprintln!(rt;
+                "margin_batch: an answer could not be written; it and those of all later accounts are missing"
+            );
+        }
     }
 }

@@ -14,6 +14,7 @@ fn chosen(test: bool, a: u64, b: u64) -> u64
     a * holds + b * (1 - holds)
 }
 
+// No `max`, `min` or `saturating_sub` of the library: document 02 [4] asks for no branch (a).
 pub fn larger(a: u64, b: u64) -> u64
     ensures { result ≡ max a b }
 {

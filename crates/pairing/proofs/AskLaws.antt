@@ -8,6 +8,7 @@ use mathlib.Core.Path.{◌≡◌, refl, sym, ap, subst, ◌∙◌}
 use native.Mathlib.Omega.{arith}
 use lib.Dec.{ltb}
 use borrow.Author.Tests.{le-ltb, lt-ltb, ltb-true}
+use Rattle.account.specs.Accepted.{account_in}
 use Rattle.lanes.proofs.FileFacts.{Ranged, ranged}
 use Rattle.tree.proofs.TreeLaws.{least_all, least_some}
 use Rattle.pairing.specs.Standings.{AskedAt, LeastAsked, Lines, Nearer, Raised, RankAsked, RowPut, Settled, StaleAsked, Standings, leaf_of}
@@ -15,8 +16,8 @@ use Rattle.lanes.specs.Keys.{none}
 use Rattle.numbers.proofs.Order.{same, split}
 use Rattle.numbers.specs.Lists.{nth}
 use Rattle.rules.proofs.Tests.{both}
-use Rattle.rules.specs.File.{Account, account_of}
-use Rattle.rules.specs.declared.Layout.{Layout}
+use Rattle.pairing.specs.declared.rows_now.RowsNow.{RowsNow}
+use Rattle.rules.specs.File.{Account}
 use Rattle.pairing.proofs.RowLaws.{both_some}
 use Rattle.pairing.proofs.StandingLaws.{but}
 use Rattle.pairing.proofs.LeastLaws.{both_spent, least_row}
@@ -120,39 +121,39 @@ settled_is left places r t e = (
 )
 
 -- The least, of rows w and h, looked at again.
-module _ (b : List ℕ) (l : Layout) (left table tree places : List ℕ) (w h : ℕ) (s : LeastAsked b l left table tree places w h) where
-  least_ok : Ranged (account_of b l)
-  least_ok = ranged b l s.rows.rests.file
+module _ (rows : RowsNow) (tree places : List ℕ) (w h : ℕ) (s : LeastAsked rows tree places w h) where
+  least_ok : Ranged (account_in rows.file)
+  least_ok = ranged rows.file.bytes.now rows.file.layout rows.rests.file
 
-  own_least : (w < l.positions) × (leaf_of (account_of b l) tree w ≡ nth tree 1)
-  own_least = rw s.written_is (least_row (account_of b l) least_ok left table tree places s.rows.lines s.rows.standings s.some)
+  own_least : (w < rows.file.layout.positions) × (leaf_of (account_in rows.file) tree w ≡ nth tree 1)
+  own_least = rw s.written_is (least_row (account_in rows.file) least_ok rows.left.now rows.table.now tree places s.rows.lines s.rows.standings s.some)
 
-  own_some : leaf_of (account_of b l) tree w < none
+  own_some : leaf_of (account_in rows.file) tree w < none
   own_some = omega (arith, own_least.1, s.some)
 
-  pub least_asks : RankAsked b l left table tree places w w true
+  pub least_asks : RankAsked rows tree places w w true
   least_asks =
       record {
-        row = record { rests = s.rows.rests; row = own_least.0 };
+        row = own_least.0;
         from_row = own_least.0;
-        leaves = but (account_of b l) left table l.positions w tree places least_ok.rows_most s.rows.standings.leaves;
+        leaves = but (account_in rows.file) rows.left.now rows.table.now rows.file.layout.positions w tree places least_ok.rows_most s.rows.standings.leaves;
         cursors = (s.rows.standings.leaves.kept w own_least.0 own_some).places own_some;
         right = λ e. s.rows.standings.right;
       }
 
   -- Both rows have contracts left: what was lacking is the answer.
-  pub least_asked : (t : Bool) → t ≡ (ltb 0 (nth left w) && ltb 0 (nth left h)) → t ≡ true → (tree' places' : List ℕ)
-      → RowPut (account_of b l) left table tree tree' places' w (nth places w) (nth places (256 + w)) true
-      → Nearer (account_of b l) left table tree places tree' places'
+  pub least_asked : (t : Bool) → t ≡ (ltb 0 (nth rows.left.now w) && ltb 0 (nth rows.left.now h)) → t ≡ true → (tree' places' : List ℕ)
+      → RowPut (account_in rows.file) rows.left.now rows.table.now tree tree' places' w (nth places w) (nth places (256 + w)) true
+      → Nearer (account_in rows.file) rows.left.now rows.table.now tree places tree' places'
   least_asked t e q tree' places' k =
-      let y = both_some (nth left w) (nth left h) (sym e ∙ q) in
-      asked_nearer (account_of b l) least_ok left table tree places tree' places' s.rows.lines s.rows.standings s.some
+      let y = both_some (nth rows.left.now w) (nth rows.left.now h) (sym e ∙ q) in
+      asked_nearer (account_in rows.file) least_ok rows.left.now rows.table.now tree places tree' places' s.rows.lines s.rows.standings s.some
       (λ asked.
       s.unsettled
       (record { written_left = rw s.written_is at y.0; held_left = rw s.held_is at y.1; told = asked }))
       (rw s.written_is at k)
 
-  pub least_stale : (t : Bool) → t ≡ (ltb 0 (nth left w) && ltb 0 (nth left h)) → t ≡ false → StaleAsked b l left table tree places w
+  pub least_stale : (t : Bool) → t ≡ (ltb 0 (nth rows.left.now w) && ltb 0 (nth rows.left.now h)) → t ≡ false → StaleAsked rows tree places w
   least_stale t e q =
       record {
         rows = s.rows;
@@ -163,8 +164,8 @@ module _ (b : List ℕ) (l : Layout) (left table tree places : List ℕ) (w h : 
                     row = own_least.0;
                     some = own_some;
                     spent =
-                        λ y. both_spent (nth left w) (nth left h) t e q
-                        (y.0, rw s.held_is (subst (λ z. 1 ≤ nth left (z % 256)) own_least.1 y.1));
+                        λ y. both_spent (nth rows.left.now w) (nth rows.left.now h) t e q
+                        (y.0, rw s.held_is (subst (λ z. 1 ≤ nth rows.left.now (z % 256)) own_least.1 y.1));
                   };
               least = own_least.1;
             };

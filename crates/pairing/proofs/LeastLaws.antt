@@ -22,7 +22,7 @@ use Rattle.rules.proofs.Search.{allowed_is, choice_ranked, is_allowed, none_choi
 use Rattle.rules.proofs.Tests.{refuted}
 use Rattle.rules.specs.File.{Account}
 use Rattle.rules.specs.Pairs.{allowed, book_of, choice, gap_of}
-use Rattle.rules.specs.declared.Choice.TheVariants.{Pair, NoPair}
+use Rattle.std.specs.Prelude.{Some, None}
 
 -- Contracts left that fall.
 pub standings_fall : (a : Account) → Ranged a → (left left' table tree places : List ℕ) → Falls a left left'
@@ -90,7 +90,7 @@ module _ (a : Account) (ok : Ranged a) (left table tree places : List ℕ) (line
         unblocked = lt-ltb (a.position_at g).blocked (a.position_at g).q (omega (arith, usable g lg, k.held_left));
       })
 
-  pub nothing : Usable a left → none ≤ nth tree 1 → choice (book_of a) (nth left) ≡ NoPair
+  pub nothing : Usable a left → none ≤ nth tree 1 → choice (book_of a) (nth left) ≡ None
   nothing usable s =
       none_choice (book_of a) (nth left)
       (λ v g lv lg. refuted _
@@ -115,7 +115,7 @@ module _ (a : Account) (ok : Ranged a) (left table tree places : List ℕ) (line
         subst (λ x. Told a w (x % 256) (nth places (512 + w))) l.1 ((f.leaves.kept w l.0 s).told s asked)
 
     pub picked : Usable a left → Settled left places (nth tree 1)
-        → choice (book_of a) (nth left) ≡ Pair (nth tree 1 / 256 % 256) (nth tree 1 % 256)
+        → choice (book_of a) (nth left) ≡ Some ((nth tree 1 / 256 % 256), (nth tree 1 % 256))
     picked usable live =
         let w = nth tree 1 / 256 % 256 in
         let h = nth tree 1 % 256 in

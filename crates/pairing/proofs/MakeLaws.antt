@@ -17,15 +17,15 @@ use Rattle.lines.specs.LineNumbers.{LineWritten}
 use Rattle.rules.specs.File.{account_of, position_row, series_of_row, series_row}
 use Rattle.rules.specs.OnePosition.{amount_of}
 use Rattle.rules.specs.Pairs.{taken}
-use Rattle.rules.specs.declared.Choice.TheVariants.{Pair}
 use Rattle.rules.specs.declared.Layout.{Layout}
 use Rattle.rules.specs.declared.Line.{Line}
 use Rattle.rules.specs.declared.PositionRow.{PositionRow}
 use Rattle.rules.specs.declared.SeriesRow.{SeriesRow}
+use Rattle.std.specs.Prelude.{Some}
 
 -- "It takes the smaller quantity left", from both rows.
 taken_is : (left : List ℕ) (w h q : ℕ) → (w ≡ h → ⊥) → w < length left → h < length left → q ≡ min (nth left w) (nth left h)
-    → (r : ℕ) → nth (set (set left w (nth left w - q)) h (nth left h - q)) r ≡ taken (nth left) (Pair w h) r
+    → (r : ℕ) → nth (set (set left w (nth left w - q)) h (nth left h - q)) r ≡ taken (nth left) (Some (w, h)) r
 taken_is left w h q two lw lh eq r = go (eqb r w) (eqb r h) refl refl
   where
     go : (x y : Bool) → eqb r w ≡ x → eqb r h ≡ y

@@ -9,6 +9,7 @@ use lib.Dec.{ltb}
 use lib.ListN.{length, set, length-set}
 use lib.Seq.{get_or-set_other, get_or-set_same}
 use borrow.Author.Tests.{ltb-true}
+use Rattle.account.specs.Accepted.{account_in}
 use Rattle.lanes.proofs.FileFacts.{ranged, row_range}
 use Rattle.lanes.proofs.MarkLaws.{mark_role}
 use Rattle.lanes.specs.Keys.{fits_lanes, pairs_as_held, pairs_as_written}
@@ -16,14 +17,13 @@ use Rattle.lanes.specs.Marks.{role_of, side_role}
 use Rattle.numbers.specs.Lists.{nth}
 use Rattle.pairing.proofs.CursorLaws.{cursor_starts}
 use Rattle.pairing.proofs.SearchLaws.{nothing_kept}
-use Rattle.pairing.specs.Cursors.{Kept, Places, Row, idle}
+use Rattle.pairing.specs.Cursors.{Kept, Places, idle}
 use Rattle.pairing.specs.Standings.{PlacesPut}
 use Rattle.pairing.specs.declared.Standing.{Standing}
+use Rattle.pairing.specs.declared.rows_now.RowsNow.{RowsNow}
 use Rattle.rules.proofs.MayPair.{may_pairable}
 use Rattle.rules.proofs.Tests.{both}
-use Rattle.rules.specs.File.{account_of}
 use Rattle.rules.specs.Pairs.{is_written, may_be_paired}
-use Rattle.rules.specs.declared.Layout.{Layout}
 use Rattle.rules.specs.declared.Position.{Position}
 use Rattle.rules.specs.declared.Side.{Side}
 use Rattle.rules.specs.declared.Side.TheVariants.{Held, Written}
@@ -51,29 +51,29 @@ role_other fits p = go p.side (may_be_paired p)
     go Written true n e = n refl
     go Written false n e = true≢false (sym e)
 
-module _ (b : List ℕ) (l : Layout) (left table : List ℕ) (w : ℕ) (row : Row b l left table w) where
-  role_is : nth table w % 256 ≡ role_of (fits_lanes (account_of b l) w) ((account_of b l).position_at w)
+module _ (rows : RowsNow) (w : ℕ) (row : w < rows.file.layout.positions) where
+  role_is : nth rows.table.now w % 256 ≡ role_of (fits_lanes (account_in rows.file) w) ((account_in rows.file).position_at w)
   role_is =
-      rw (row.rests.filled.marks w row.row)
-      (mark_role (fits_lanes (account_of b l) w) ((account_of b l).position_at w) (row_range (account_of b l) (ranged b l row.rests.file) w row.row))
+      rw (rows.rests.filled.marks w row)
+      (mark_role (fits_lanes (account_in rows.file) w) ((account_in rows.file).position_at w) (row_range (account_in rows.file) (ranged rows.file.bytes.now rows.file.layout rows.rests.file) w row))
 
   -- Its first places: a written row is in no lane itself.
-  pub first_places : nth table w % 256 ≡ 1 → Places (account_of b l) left w (nth table (256 + w)) (nth table (512 + w))
+  pub first_places : nth rows.table.now w % 256 ≡ 1 → Places (account_in rows.file) rows.left.now w (nth rows.table.now (256 + w)) (nth rows.table.now (512 + w))
   first_places e =
-      let r = role_written (fits_lanes (account_of b l) w) ((account_of b l).position_at w) (sym role_is ∙ e) in
-      let ok = ranged b l row.rests.file in
+      let r = role_written (fits_lanes (account_in rows.file) w) ((account_in rows.file).position_at w) (sym role_is ∙ e) in
+      let ok = ranged rows.file.bytes.now rows.file.layout rows.rests.file in
       record {
-        up = cursor_starts (account_of b l) ok left w row.row 256 table r.outside r.written row.rests.filled.up;
-        down = cursor_starts (account_of b l) ok left w row.row 512 table r.outside r.written row.rests.filled.down;
+        up = cursor_starts (account_in rows.file) ok rows.left.now w row 256 rows.table.now r.outside r.written rows.rests.filled.up;
+        down = cursor_starts (account_in rows.file) ok rows.left.now w row 512 rows.table.now r.outside r.written rows.rests.filled.down;
         written = r.written;
       }
 
-  pub not_written : (nth table w % 256 ≡ 1 → ⊥) → (t : Standing) → t.rank ≡ idle → Kept (account_of b l) left w t
+  pub not_written : (nth rows.table.now w % 256 ≡ 1 → ⊥) → (t : Standing) → t.rank ≡ idle → Kept (account_in rows.file) rows.left.now w t
   not_written e =
-      nothing_kept (account_of b l) left w
+      nothing_kept (account_in rows.file) rows.left.now w
       (λ h lh o.
-      let p = may_pairable (account_of b l) w h o.may_pair_lem in
-      role_other (fits_lanes (account_of b l) w) ((account_of b l).position_at w) (λ q. e (role_is ∙ q)) (rw (p.is_written_lem, p.written_may)))
+      let p = may_pairable (account_in rows.file) w h o.may_pair_lem in
+      role_other (fits_lanes (account_in rows.file) w) ((account_in rows.file).position_at w) (λ q. e (role_is ∙ q)) (rw (p.is_written_lem, p.written_may)))
 
 pub both_some : (x y : ℕ) → (ltb 0 x && ltb 0 y) ≡ true → (1 ≤ x) × (1 ≤ y)
 both_some x y e = let t = both (ltb 0 x) (ltb 0 y) e in (ltb-true 0 x t.0, ltb-true 0 y t.1)

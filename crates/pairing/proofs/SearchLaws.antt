@@ -4,9 +4,10 @@ use Prim.Native.Nat.{ℕ, ◌+◌, ◌*◌, ◌-◌, ◌%◌, ◌≤◌, ◌<◌
 use mathlib.Core.Bool.{true, ◌&&◌, true≢false}
 use mathlib.Core.List.{List}
 use mathlib.Core.Logic.{◌⊎◌, inl, inr}
-use mathlib.Core.Path.{◌≡◌, refl, sym, ap, subst, ◌∙◌}
+use mathlib.Core.Path.{◌≡◌, refl, sym, ap, ◌∙◌}
 use native.Mathlib.Omega.{arith}
 use borrow.Author.Tests.{le-ltb, lt-ltb}
+use Rattle.account.specs.Accepted.{account_in}
 use Rattle.lanes.proofs.FileFacts.{Ranged, ranged, row_range}
 use Rattle.lanes.proofs.KeyLaws.{top_most}
 use Rattle.lanes.proofs.MarkLaws.{mark_from_lem, mark_most, mark_top_lem}
@@ -17,12 +18,13 @@ use Rattle.numbers.specs.Lists.{nth}
 use Rattle.pairing.proofs.CursorLaws.{cursor_meets, cursor_moves, cursor_rises}
 use Rattle.pairing.proofs.FileFacts.{spread_most}
 use Rattle.pairing.proofs.RankLaws.{distance_below, distance_most, distance_row, down_found, down_near, gap_most, up_found, up_near}
-use Rattle.pairing.specs.Cursors.{Answer, Answered, Asked, Cursor, DistanceAsked, Found, Kept, Live, Meets, Open, Reading, Row, Shut, SkipAsked, Skipped, Told, distance, distance_to, idle, rank_from, spread_at}
+use Rattle.pairing.specs.Cursors.{Answer, Answered, Asked, Cursor, DistanceAsked, Found, Kept, Live, Meets, Open, Reading, Shut, SkipAsked, Skipped, Told, distance, distance_to, idle, rank_from, spread_at}
 use Rattle.pairing.specs.declared.Standing.{Standing}
 use Rattle.pairing.specs.declared.Written.{Written}
+use Rattle.pairing.specs.declared.rows_now.RowsNow.{RowsNow}
 use Rattle.rules.proofs.PairOrder.{rank}
 use Rattle.rules.proofs.Tests.{both}
-use Rattle.rules.specs.File.{Account, account_of, layout, series_of_row}
+use Rattle.rules.specs.File.{Account, account_of, series_of_row}
 use Rattle.rules.specs.OnePosition.{normal, unit_margin}
 use Rattle.rules.specs.Pairs.{book_of, gap_of, is_written, lowers, may_be_paired, may_of}
 use Rattle.rules.specs.Spreads.{spread_between, unit_spread}
@@ -50,49 +52,34 @@ answered b l w h asked held n eh en x e =
       no = λ s q. true≢false (sym q ∙ may ∙ charge_not U S (omega (arith, is, f.unit_is)));
     }
 
--- Spent rows passed over. The loop does not use the layout, so that its cursor is said of the file's own.
-abbrev pub OwnCursor : List ℕ → List ℕ → ℕ → ℕ → ℕ → Type 0
-OwnCursor b left o w u = Cursor (account_of b (layout b)) left o w u
+-- Spent rows passed over; u is where the cursor stands.
+module _ (rows : RowsNow) (o w first t : ℕ) (s : SkipAsked rows o w first t)
+    (u : ℕ) (c : Cursor (account_in rows.file) rows.left.now o w u) (later : first ≤ u) where
+  skip_ranged : Ranged (account_in rows.file)
+  skip_ranged = ranged rows.file.bytes.now rows.file.layout rows.rests.file
 
-module _ (b : List ℕ) (l : Layout) (left table : List ℕ) (o w first t : ℕ) (s : SkipAsked b l left table o w first t) where
-  own : (u : ℕ) → Cursor (account_of b l) left o w u → OwnCursor b left o w u
-  own u = subst (λ k. Cursor (account_of b k) left o w u) s.row.rests.file.layout_is
-
-  pub skip_begins : OwnCursor b left o w first
-  skip_begins = own first s.cursor
-
--- u is where the cursor stands.
-module _ (b : List ℕ) (l : Layout) (left table : List ℕ) (o w first t : ℕ) (s : SkipAsked b l left table o w first t)
-    (u : ℕ) (c₀ : OwnCursor b left o w u) (later : first ≤ u) where
-  skip_ranged : Ranged (account_of b l)
-  skip_ranged = ranged b l s.row.rests.file
-
-  c : Cursor (account_of b l) left o w u
-  c = subst (λ k. Cursor (account_of b k) left o w u) (sym s.row.rests.file.layout_is) c₀
-
-  pub skip_end : t ≤ u → Skipped (account_of b l) left o w first u
+  pub skip_end : t ≤ u → Skipped (account_in rows.file) rows.left.now o w first u
   skip_end q = record { cursor = c; live = λ z. absurd (omega (arith, s.top_is)); later = later }
 
-  pub skip_stops : 1 ≤ nth left (u % 256) → Skipped (account_of b l) left o w first u
+  pub skip_stops : 1 ≤ nth rows.left.now (u % 256) → Skipped (account_in rows.file) rows.left.now o w first u
   skip_stops q = record { cursor = c; live = λ z. q; later = later }
 
   module _ (q : u < t) where
-    below : u < top (account_of b l) o w
+    below : u < top (account_in rows.file) o w
     below = omega (arith, s.top_is)
 
-    pub skip_row : u % 256 < l.positions
+    pub skip_row : u % 256 < rows.file.layout.positions
     skip_row = c.row below
 
-    pub skip_moves : nth left (u % 256) ≤ 0 → OwnCursor b left o w (nth table (o + u % 256))
+    pub skip_moves : nth rows.left.now (u % 256) ≤ 0 → Cursor (account_in rows.file) rows.left.now o w (nth rows.table.now (o + u % 256))
     skip_moves z =
-        own b l left table o w first t s (nth table (o + u % 256))
-        (cursor_moves (account_of b l) skip_ranged left w s.row.row o table s.links u c below
-        (λ e. omega (arith, e.held_left)))
+        cursor_moves (account_in rows.file) skip_ranged rows.left.now w s.row o rows.table.now s.links u c below
+        (λ e. omega (arith, e.held_left))
 
-    pub skip_rises : (u < nth table (o + u % 256)) × (u < none)
+    pub skip_rises : (u < nth rows.table.now (o + u % 256)) × (u < none)
     skip_rises = (
-      cursor_rises (account_of b l) skip_ranged left w s.row.row o table s.links u c below,
-      omega (arith, below, top_most (account_of b l) skip_ranged o w s.row.row),
+      cursor_rises (account_in rows.file) skip_ranged rows.left.now w s.row o rows.table.now s.links u c below,
+      omega (arith, below, top_most (account_in rows.file) skip_ranged o w s.row),
     )
 
 -- A distance, return by return.
@@ -104,40 +91,40 @@ module _ (o x u t f : ℕ) (et : t ≡ mark_top o x) where
   distance_none q = rw (sym et, le-ltb u t q) refl
 
 -- Top, start and distance from the mark of row w.
-module _ (b : List ℕ) (l : Layout) (left table : List ℕ) (w : ℕ) (row : Row b l left table w) (o : ℕ) where
-  mark : nth table w ≡ mark_of (fits_lanes (account_of b l) w) ((account_of b l).position_at w)
-  mark = row.rests.filled.marks w row.row
+module _ (rows : RowsNow) (w : ℕ) (row : w < rows.file.layout.positions) (o : ℕ) where
+  mark : nth rows.table.now w ≡ mark_of (fits_lanes (account_in rows.file) w) ((account_in rows.file).position_at w)
+  mark = rows.rests.filled.marks w row
 
-  pub top_marked : mark_top o (nth table w) ≡ top (account_of b l) o w
+  pub top_marked : mark_top o (nth rows.table.now w) ≡ top (account_in rows.file) o w
   top_marked =
-      rw mark (mark_top_lem (fits_lanes (account_of b l) w) ((account_of b l).position_at w) (row_range (account_of b l) (ranged b l row.rests.file) w row.row) o)
+      rw mark (mark_top_lem (fits_lanes (account_in rows.file) w) ((account_in rows.file).position_at w) (row_range (account_in rows.file) (ranged rows.file.bytes.now rows.file.layout rows.rests.file) w row) o)
 
-  pub distance_asked : (u : ℕ) → Cursor (account_of b l) left o w u → DistanceAsked o (nth table w) u
+  pub distance_asked : (u : ℕ) → Cursor (account_in rows.file) rows.left.now o w u → DistanceAsked o (nth rows.table.now w) u
   distance_asked u c =
-      let r = row_range (account_of b l) (ranged b l row.rests.file) w row.row in
-      let e : mark_from o (nth table w) ≡ from (account_of b l) o w = rw mark (mark_from_lem (fits_lanes (account_of b l) w) ((account_of b l).position_at w) r o) in
+      let r = row_range (account_in rows.file) (ranged rows.file.bytes.now rows.file.layout rows.rests.file) w row in
+      let e : mark_from o (nth rows.table.now w) ≡ from (account_in rows.file) o w = rw mark (mark_from_lem (fits_lanes (account_in rows.file) w) ((account_in rows.file).position_at w) r o) in
       record {
-        mark_most = rw mark (mark_most (fits_lanes (account_of b l) w) ((account_of b l).position_at w) r);
+        mark_most = rw mark (mark_most (fits_lanes (account_in rows.file) w) ((account_in rows.file).position_at w) r);
         reached = λ q. let z = c.after (omega (arith, top_marked)) in omega (arith, e);
       }
 
-  pub distance_marked : (u x : ℕ) → x ≡ distance_to u (mark_from o (nth table w)) (mark_top o (nth table w)) → x ≡ distance (account_of b l) o w u
+  pub distance_marked : (u x : ℕ) → x ≡ distance_to u (mark_from o (nth rows.table.now w)) (mark_top o (nth rows.table.now w)) → x ≡ distance (account_in rows.file) o w u
   distance_marked u x e =
-      let r = row_range (account_of b l) (ranged b l row.rests.file) w row.row in
-      let fits = fits_lanes (account_of b l) w in
-      e ∙ rw (mark, mark_from_lem fits ((account_of b l).position_at w) r o, mark_top_lem fits ((account_of b l).position_at w) r o) refl
+      let r = row_range (account_in rows.file) (ranged rows.file.bytes.now rows.file.layout rows.rests.file) w row in
+      let fits = fits_lanes (account_in rows.file) w in
+      e ∙ rw (mark, mark_from_lem fits ((account_in rows.file).position_at w) r o, mark_top_lem fits ((account_in rows.file).position_at w) r o) refl
 
 -- Row w as the code read it, once a search.
-pub reading : (b : List ℕ) (l : Layout) (left table : List ℕ) (w : ℕ) (row : Row b l left table w)
-    → pairs_as_written ((account_of b l).position_at w) ≡ true → (p : Position) (t : Terms) (s : Series)
-    → p ≡ (account_of b l).position_at w → t ≡ normal p → s ≡ (account_of b l).series_at p.series
-    → Reading (account_of b l) (record { row = w; terms = t; series = s; unit = nth table (768 + w) })
-reading b l left table w row written p t s ep et es =
-    let sides = both (is_written ((account_of b l).position_at w).side) (may_be_paired ((account_of b l).position_at w)) written in
+pub reading : (rows : RowsNow) (w : ℕ) (row : w < rows.file.layout.positions)
+    → pairs_as_written ((account_in rows.file).position_at w) ≡ true → (p : Position) (t : Terms) (s : Series)
+    → p ≡ (account_in rows.file).position_at w → t ≡ normal p → s ≡ (account_in rows.file).series_at p.series
+    → Reading (account_in rows.file) (record { row = w; terms = t; series = s; unit = nth rows.table.now (768 + w) })
+reading rows w row written p t s ep et es =
+    let sides = both (is_written ((account_in rows.file).position_at w).side) (may_be_paired ((account_in rows.file).position_at w)) written in
     record {
       terms_is = et ∙ ap normal ep;
-      series_is = es ∙ ap (λ (x : Position). (account_of b l).series_at x.series) ep;
-      unit_is = row.rests.filled.units w row.row sides.0;
+      series_is = es ∙ ap (λ (x : Position). (account_in rows.file).series_at x.series) ep;
+      unit_is = rows.rests.filled.units w row sides.0;
       written = written;
     }
 
@@ -166,38 +153,38 @@ rank_low : (r w m g h : ℕ) → h < 256 → r ≡ rank_from w m → m ≤ g * 2
 rank_low r w m g h l e q = omega arith
 
 -- Both cursors of row w at rows with contracts left, their distances x and y, and the lesser of them.
-module _ (b : List ℕ) (l : Layout) (left table : List ℕ) (w : ℕ) (at : Row b l left table w) (written : pairs_as_written ((account_of b l).position_at w) ≡ true)
-    (first second u₀ d₀ u d x y m : ℕ) (cu : Skipped (account_of b l) left 256 w u₀ u) (cd : Skipped (account_of b l) left 512 w d₀ d)
+module _ (rows : RowsNow) (w : ℕ) (at : w < rows.file.layout.positions) (written : pairs_as_written ((account_in rows.file).position_at w) ≡ true)
+    (first second u₀ d₀ u d x y m : ℕ) (cu : Skipped (account_in rows.file) rows.left.now 256 w u₀ u) (cd : Skipped (account_in rows.file) rows.left.now 512 w d₀ d)
     (lu : first ≤ u₀) (ld : second ≤ d₀)
-    (ex : x ≡ distance (account_of b l) 256 w u) (ey : y ≡ distance (account_of b l) 512 w d) (em : m ≡ min x y) where
+    (ex : x ≡ distance (account_in rows.file) 256 w u) (ey : y ≡ distance (account_in rows.file) 512 w d) (em : m ≡ min x y) where
   abbrev a : Account
-  a = account_of b l
+  a = account_in rows.file
 
   ok : Ranged a
-  ok = ranged b l at.rests.file
+  ok = ranged rows.file.bytes.now rows.file.layout rows.rests.file
 
   lw : w < a.positions
-  lw = at.row
+  lw = at
 
   below_256 : (h : ℕ) → h < a.positions → h < 256
   below_256 h l = omega (arith, ok.rows_most)
 
-  near : (h : ℕ) → h < a.positions → Open a left w h → m ≤ gap_of a w h * 256 + h
+  near : (h : ℕ) → h < a.positions → Open a rows.left.now w h → m ≤ gap_of a w h * 256 + h
   near h l o = go (split (a.position_at h).terms.pe (a.position_at w).terms.pe)
     where
       go : ((a.position_at h).terms.pe < (a.position_at w).terms.pe) ⊎ ((a.position_at w).terms.pe ≤ (a.position_at h).terms.pe)
           → m ≤ gap_of a w h * 256 + h
-      go (inl q) = omega (arith, down_near a ok left w lw d y cd.cursor ey h l o q)
-      go (inr q) = omega (arith, up_near a ok left w lw u x cu.cursor ex h l o q)
+      go (inl q) = omega (arith, down_near a ok rows.left.now w lw d y cd.cursor ey h l o q)
+      go (inr q) = omega (arith, up_near a ok rows.left.now w lw u x cu.cursor ex h l o q)
 
   -- Where the look ends.
-  ended : (t : Standing) → t.up ≡ u → t.down ≡ d → Kept a left w t → Live left t.rank → Found a left w first second t
+  ended : (t : Standing) → t.up ≡ u → t.down ≡ d → Kept a rows.left.now w t → Live rows.left.now t.rank → Found a rows.left.now w first second t
   ended t eu ed k live =
       record { kept = k; live = live; later_up = omega (arith, cu.later); later_down = omega (arith, cd.later) }
 
-  pub nothing_near : none ≤ m → (t : Standing) → t.rank ≡ idle → t.up ≡ u → t.down ≡ d → Found a left w first second t × Answer t
+  pub nothing_near : none ≤ m → (t : Standing) → t.rank ≡ idle → t.up ≡ u → t.down ≡ d → Found a rows.left.now w first second t × Answer t
   nothing_near q t e eu ed =
-      let k = nothing_kept a left w (λ h l o. omega (arith, near h l o, gap_most a ok left w lw h l, ok.rows_most)) t e in
+      let k = nothing_kept a rows.left.now w (λ h l o. omega (arith, near h l o, gap_most a ok rows.left.now w lw h l, ok.rows_most)) t e in
       let past : t.rank < none → ⊥ = λ (z : t.rank < none). omega arith in
       (ended t eu ed k (λ z. absurd (past z)), λ z. absurd (past z))
 
@@ -206,24 +193,24 @@ module _ (b : List ℕ) (l : Layout) (left table : List ℕ) (w : ℕ) (at : Row
     up_row : x ≤ y → m % 256 ≡ u % 256
     up_row q =
         let e : m ≡ x = omega arith in
-        rw e (distance_row a ok left w lw 256 u x cu.cursor ex (omega arith) (inl refl))
+        rw e (distance_row a ok rows.left.now w lw 256 u x cu.cursor ex (omega arith) (inl refl))
 
     down_row : y < x → m % 256 ≡ d % 256
     down_row q =
         let e : m ≡ y = omega arith in
-        rw e (distance_row a ok left w lw 512 d y cd.cursor ey (omega arith) (inr refl))
+        rw e (distance_row a ok rows.left.now w lw 512 d y cd.cursor ey (omega arith) (inr refl))
 
     up_below : x ≤ y → u < top a 256 w
-    up_below q = distance_below a ok left w lw 256 u x cu.cursor ex (omega arith)
+    up_below q = distance_below a ok rows.left.now w lw 256 u x cu.cursor ex (omega arith)
 
     down_below : y < x → d < top a 512 w
-    down_below q = distance_below a ok left w lw 512 d y cd.cursor ey (omega arith)
+    down_below q = distance_below a ok rows.left.now w lw 512 d y cd.cursor ey (omega arith)
 
     -- It is a row with contracts left that meets what is asked before the margins are compared.
     pub record Nearer : Type 0 where
       pub row : m % 256 < a.positions
       pub meets : Meets a w (m % 256)
-      pub held_left : 1 ≤ nth left (m % 256)
+      pub held_left : 1 ≤ nth rows.left.now (m % 256)
       pub is_distance : m ≡ gap_of a w (m % 256) * 256 + m % 256
       pub most : m ≤ 4_000_000_000_000
 
@@ -237,10 +224,10 @@ module _ (b : List ℕ) (l : Layout) (left table : List ℕ) (w : ℕ) (at : Row
             let t = down_below q in
             record {
               row = rw r (cd.cursor.row t);
-              meets = rw r (cursor_meets a ok left w lw 512 d cd.cursor t written);
+              meets = rw r (cursor_meets a ok rows.left.now w lw 512 d cd.cursor t written);
               held_left = rw r (cd.live t);
-              is_distance = e ∙ rw r (down_found a ok left w lw d y cd.cursor ey (omega arith));
-              most = omega (arith, distance_most a ok left w lw 512 d y cd.cursor ey (omega arith));
+              is_distance = e ∙ rw r (down_found a ok rows.left.now w lw d y cd.cursor ey (omega arith));
+              most = omega (arith, distance_most a ok rows.left.now w lw 512 d y cd.cursor ey (omega arith));
             }
         go (inr q) =
             let e : m ≡ x = omega arith in
@@ -248,18 +235,18 @@ module _ (b : List ℕ) (l : Layout) (left table : List ℕ) (w : ℕ) (at : Row
             let t = up_below q in
             record {
               row = rw r (cu.cursor.row t);
-              meets = rw r (cursor_meets a ok left w lw 256 u cu.cursor t written);
+              meets = rw r (cursor_meets a ok rows.left.now w lw 256 u cu.cursor t written);
               held_left = rw r (cu.live t);
-              is_distance = e ∙ rw r (up_found a ok left w lw u x cu.cursor ex (omega arith));
-              most = omega (arith, distance_most a ok left w lw 256 u x cu.cursor ex (omega arith));
+              is_distance = e ∙ rw r (up_found a ok rows.left.now w lw u x cu.cursor ex (omega arith));
+              most = omega (arith, distance_most a ok rows.left.now w lw 256 u x cu.cursor ex (omega arith));
             }
 
     -- The rank, and what is told of its pair.
     pub ranked_here : (t : Standing) → t.rank ≡ rank_from w m → t.up ≡ u → t.down ≡ d
-        → (t.spread < none → Told a w (m % 256) t.spread) → Found a left w first second t
+        → (t.spread < none → Told a w (m % 256) t.spread) → Found a rows.left.now w first second t
     ranked_here t er eu ed told =
         let h = m % 256 in
-        let g = gap_most a ok left w lw h nearer.row in
+        let g = gap_most a ok rows.left.now w lw h nearer.row in
         let dist = nearer.is_distance in
         let is : t.rank ≡ rank (book_of a) w h = omega (arith, ok.rows_most) in
         let row : t.rank % 256 ≡ h = omega (arith, ok.rows_most) in
@@ -283,35 +270,35 @@ module _ (b : List ℕ) (l : Layout) (left table : List ℕ) (w : ℕ) (at : Row
     module _ (charge unit : ℕ) (answer : Answered a w (m % 256) unit charge) where
       -- It may pair.
       pub found : charge < unit → (t : Standing) → t.rank ≡ rank_from w m → t.spread ≡ charge → t.up ≡ u → t.down ≡ d
-          → Found a left w first second t × Answer t
+          → Found a rows.left.now w first second t × Answer t
       found q t er es eu ed =
           let may = (answer.yes q).0 in
           let is : t.spread ≡ spread_at a w (m % 256) = es ∙ (answer.yes q).1 in (
             ranked_here t er eu ed (λ z. record { may_pair_lem = may; spread_is = is }),
-            λ z. omega (arith, is, spread_most b l at.rests.file w (m % 256) lw may),
+            λ z. omega (arith, is, spread_most rows.file.bytes.now rows.file.layout rows.rests.file w (m % 256) lw may),
           )
 
       -- It may not: its cursor moves on.
       module _ (q : unit ≤ charge) where
-        shut : (h : ℕ) → m % 256 ≡ h → Open a left w h → ⊥
+        shut : (h : ℕ) → m % 256 ≡ h → Open a rows.left.now w h → ⊥
         shut h e o = answer.no q (rw e o.may_pair_lem)
 
-        pub up_moves : x ≤ y → Cursor a left 256 w (nth table (256 + m % 256)) × (u < nth table (256 + m % 256)) × (u < none)
+        pub up_moves : x ≤ y → Cursor a rows.left.now 256 w (nth rows.table.now (256 + m % 256)) × (u < nth rows.table.now (256 + m % 256)) × (u < none)
         up_moves z =
             let t = up_below z in
-            let f = at.rests.filled.up in
+            let f = rows.rests.filled.up in
             rw (up_row z) (
-              cursor_moves a ok left w lw 256 table f u cu.cursor t (shut (u % 256) (up_row z)),
-              cursor_rises a ok left w lw 256 table f u cu.cursor t,
+              cursor_moves a ok rows.left.now w lw 256 rows.table.now f u cu.cursor t (shut (u % 256) (up_row z)),
+              cursor_rises a ok rows.left.now w lw 256 rows.table.now f u cu.cursor t,
               omega (arith, t, top_most a ok 256 w lw),
             )
 
-        pub down_moves : y < x → Cursor a left 512 w (nth table (512 + m % 256)) × (d < nth table (512 + m % 256)) × (d < none)
+        pub down_moves : y < x → Cursor a rows.left.now 512 w (nth rows.table.now (512 + m % 256)) × (d < nth rows.table.now (512 + m % 256)) × (d < none)
         down_moves z =
             let t = down_below z in
-            let f = at.rests.filled.down in
+            let f = rows.rests.filled.down in
             rw (down_row z) (
-              cursor_moves a ok left w lw 512 table f d cd.cursor t (shut (d % 256) (down_row z)),
-              cursor_rises a ok left w lw 512 table f d cd.cursor t,
+              cursor_moves a ok rows.left.now w lw 512 rows.table.now f d cd.cursor t (shut (d % 256) (down_row z)),
+              cursor_rises a ok rows.left.now w lw 512 rows.table.now f d cd.cursor t,
               omega (arith, t, top_most a ok 512 w lw),
             )

@@ -16,7 +16,7 @@ use Rattle.pairing.proofs.LeastLaws.{least_told, nothing, picked, standings_fall
 use Rattle.pairing.specs.Cursors.{Usable}
 use Rattle.pairing.specs.Standings.{BestRank, Lines, Standings}
 use Rattle.pairing.specs.Pairing.{PairAsked, PairWritten, PairedBy, PairedUp, RoundsMade, pair_of}
-use Rattle.pairing.specs.declared.Tally.{Tally}
+use Rattle.rules.specs.declared.Tally.{Tally}
 use Rattle.lines.proofs.LinesHeld.{lines_more, lines_same}
 use Rattle.lines.specs.LineNumbers.{lines_from, most_pair_numbers}
 use Rattle.rules.proofs.Counts.{bound, open_most, room, taken_most}
@@ -29,8 +29,9 @@ use Rattle.rules.proofs.Sums.{sum_over-append}
 use Rattle.rules.specs.File.{Account, account_of}
 use Rattle.rules.specs.Lines.{pair_lines, spread_amount, sum_over}
 use Rattle.rules.specs.Pairs.{available, book_of, choice, left_after, made_after, made_by, pairs_after, taken}
-use Rattle.rules.specs.declared.Choice.TheVariants.{NoPair, Pair}
 use Rattle.rules.specs.declared.Layout.{Layout}
+use Rattle.std.specs.Prelude.{Some, None}
+use Rattle.rules.specs.declared.Tally.{Tally}
 
 abbrev tally : ℕ → ℕ → Tally
 tally k total = record { count = k; total = total }
@@ -100,13 +101,13 @@ module _ (a : Account) where
     now_choice = sym (choice_same (book_of a) (nth left) (left_after (book_of a) k (available a)) f.left_is)
 
     -- Where no pair is found, further rounds change nothing.
-    stopped : choice (book_of a) (nth left) ≡ NoPair → (n : ℕ) → k ≤ n → PairedBy n a left numbers (tally k total)
+    stopped : choice (book_of a) (nth left) ≡ None → (n : ℕ) → k ≤ n → PairedBy n a left numbers (tally k total)
     stopped e n few =
         paired_same k n left numbers (tally k total)
         (sym (ap (λ m. pairs_after a m) (sym (add-sub_of_le few)) ∙ made_ended (book_of a) k (n - k) (available a) (now_choice ∙ e))) f
 
-    module _ (w h : ℕ) (e : choice (book_of a) (nth left) ≡ Pair w h) where
-      found : choice (book_of a) (left_after (book_of a) k (available a)) ≡ Pair w h
+    module _ (w h : ℕ) (e : choice (book_of a) (nth left) ≡ Some (w, h)) where
+      found : choice (book_of a) (left_after (book_of a) k (available a)) ≡ Some (w, h)
       found = now_choice ∙ e
 
       rounds_left : k + 2 ≤ a.positions
@@ -119,7 +120,7 @@ module _ (a : Account) where
           ∙ ap (λ c. made_after (book_of a) k (available a) ++ made_by (left_after (book_of a) k (available a)) c) found
           ∙ rw (f.left_is w at.written_below, f.left_is h at.held_below) refl
 
-      left_now : (r : ℕ) → r < a.positions → left_after (book_of a) (k + 1) (available a) r ≡ taken (nth left) (Pair w h) r
+      left_now : (r : ℕ) → r < a.positions → left_after (book_of a) (k + 1) (available a) r ≡ taken (nth left) (Some (w, h)) r
       left_now r l =
           let at = choice_allowed (book_of a) (nth left) e in
           ap (λ (g : ℕ → ℕ). g r) (left_more (book_of a) k (available a))
@@ -152,7 +153,7 @@ module _ (a : Account) where
 pub still_standing : (a : Account) → Ranged a → (left left' numbers numbers' table tree places : List ℕ) (k w h m : ℕ)
     → PairWritten a k w h left numbers left' numbers' m → Standings a left table tree places → Standings a left' table tree places
 still_standing a ok left left' numbers numbers' table tree places k w h m p =
-    standings_fall a ok left left' table tree places (λ r l. omega (arith, p.left_is r l, taken_most (nth left) (Pair w h) r))
+    standings_fall a ok left left' table tree places (λ r l. omega (arith, p.left_is r l, taken_most (nth left) (Some (w, h)) r))
 
 -- One turn of the code's loop, with the least rank m.
 module _ (b : List ℕ) (l : Layout) (known : Known b l) (left numbers table tree places : List ℕ) (k total : ℕ)
@@ -169,7 +170,7 @@ module _ (b : List ℕ) (l : Layout) (known : Known b l) (left numbers table tre
       record { paired = stopped (account_of b l) k total left numbers f (nothing (account_of b l) (ranged b l ok) left table tree places lines best.standings usable (rw best.least at s)) n few; one_each = f; standings = best.standings }
 
   module _ (s : m < none) where
-    picks : choice (book_of (account_of b l)) (nth left) ≡ Pair (m / 256 % 256) (m % 256)
+    picks : choice (book_of (account_of b l)) (nth left) ≡ Some ((m / 256 % 256), (m % 256))
     picks =
         rw best.least
         (picked (account_of b l) (ranged b l ok) left table tree places lines best.standings (rw best.least at s) usable (rw best.least at (best.settled s)))

@@ -1,12 +1,14 @@
 -- The places of a written row in both lanes, and its nearest held row as a rank. Everything is said of the contracts left
 -- now, and stays true while they fall.
 use Rattle.std.specs.Prelude.{ℕ, ◌+◌, ◌*◌, ◌-◌, ◌/◌, ◌%◌, ◌≤◌, ◌<◌, min, Bool, true, cond, ◌&&◌, List, ◌≡◌, eqb, ltb, length}
+use Rattle.account.specs.Accepted.{account_in}
 use Rattle.account.specs.Known.{Known}
 use Rattle.lanes.specs.Keys.{Links, down_lane, from, key, last, none, pairs_as_written, some_unblocked, start, top, up_lane}
-use Rattle.lanes.specs.Marks.{Table, mark_from, mark_top}
+use Rattle.lanes.specs.Marks.{mark_from, mark_top}
 use Rattle.numbers.specs.Lists.{nth}
 use Rattle.pairing.specs.declared.Standing.{Standing}
 use Rattle.pairing.specs.declared.Written.{Written}
+use Rattle.pairing.specs.declared.rows_now.RowsNow.{RowsNow}
 use Rattle.rules.proofs.PairOrder.{rank}
 use Rattle.rules.specs.File.{Account, account_of, series_of_row}
 use Rattle.rules.specs.Limits.{most_positions}
@@ -20,17 +22,6 @@ use Rattle.rules.specs.declared.Position.{Position}
 -- The leaf of a row that is not spent and has no rank.
 abbrev pub idle : ℕ
 idle = 1_152_921_504_606_846_977
-
--- What the pairing rests on: an accepted file, its table, and contracts left of every row.
-pub record Rests (b : List ℕ) (l : Layout) (left table : List ℕ) : Type 0 where
-  pub file : Known b l
-  pub filled : Table (account_of b l) table
-  pub lefts : most_positions ≤ length left
-
--- The same with a row to look at.
-pub record Row (b : List ℕ) (l : Layout) (left table : List ℕ) (w : ℕ) : Type 0 where
-  pub rests : Rests b l left table
-  pub row : w < l.positions
 
 -- Row w as it is read once a search: its terms after flag 1, its series, its unit margin.
 pub record Reading (a : Account) (w : Written) : Type 0 where
@@ -148,12 +139,12 @@ pub record Asked (b : List ℕ) (l : Layout) (w : Written) (h : ℕ) : Type 0 wh
   pub meets : Meets (account_of b l) w.row h
 
 -- What passing over spent rows asks: a cursor of row w in a lane, and the row's top there.
-pub record SkipAsked (b : List ℕ) (l : Layout) (left table : List ℕ) (o w u t : ℕ) : Type 0 where
-  pub row : Row b l left table w
-  pub room : o + most_positions ≤ length table
-  pub links : Links (account_of b l) o table
-  pub cursor : Cursor (account_of b l) left o w u
-  pub top_is : t ≡ top (account_of b l) o w
+pub record SkipAsked (r : RowsNow) (o w u t : ℕ) : Type 0 where
+  pub row : w < r.file.layout.positions
+  pub room : o + most_positions ≤ length r.table.now
+  pub links : Links (account_in r.file) o r.table.now
+  pub cursor : Cursor (account_in r.file) r.left.now o w u
+  pub top_is : t ≡ top (account_in r.file) o w
 
 -- A cursor from u on that stands at a row with contracts left.
 pub record Skipped (a : Account) (left : List ℕ) (o w u v : ℕ) : Type 0 where
@@ -162,10 +153,10 @@ pub record Skipped (a : Account) (left : List ℕ) (o w u v : ℕ) : Type 0 wher
   pub later : u ≤ v
 
 -- What a search asks: the row as it is read, and its cursors.
-pub record SearchAsked (b : List ℕ) (l : Layout) (left table : List ℕ) (w : Written) (up down : ℕ) : Type 0 where
-  pub row : Row b l left table w.row
-  pub reading : Reading (account_of b l) w
-  pub places : Places (account_of b l) left w.row up down
+pub record SearchAsked (r : RowsNow) (w : Written) (up down : ℕ) : Type 0 where
+  pub row : w.row < r.file.layout.positions
+  pub reading : Reading (account_in r.file) w
+  pub places : Places (account_in r.file) r.left.now w.row up down
 
 -- The mark of a row, and a cursor that has reached the row's start.
 pub record DistanceAsked (o x u : ℕ) : Type 0 where

@@ -1,20 +1,21 @@
 -- What one pair and the whole pairing promise.
-use Rattle.std.specs.Prelude.{ℕ, ◌+◌, ◌*◌, ◌≤◌, ◌<◌, min, true, List, ◌≡◌, length}
+use Rattle.std.specs.Prelude.{ℕ, ◌+◌, ◌*◌, ◌≤◌, ◌<◌, min, true, List, ◌≡◌, length, Some}
 use Rattle.account.specs.Known.{Known}
 use Rattle.lanes.specs.Keys.{table_size}
 use Rattle.lanes.specs.Marks.{Units}
 use Rattle.numbers.specs.Lists.{nth}
 use Rattle.pairing.specs.Cursors.{spread_at}
-use Rattle.pairing.specs.Standings.{RowsAsked, Standings, TableNew}
+use Rattle.pairing.specs.Resting.{Rests}
+use Rattle.pairing.specs.Standings.{Lines, Standings, TableNew}
 use Rattle.pairing.specs.declared.Instalment.{Instalment}
-use Rattle.pairing.specs.declared.Tally.{Tally}
+use Rattle.rules.specs.declared.Tally.{Tally}
 use Rattle.lines.specs.LineNumbers.{line_from, lines_from, most_pair_numbers, numbers_per_line}
 use Rattle.rules.specs.File.{Account, account_of}
 use Rattle.rules.specs.Limits.{most_positions}
 use Rattle.rules.specs.Lines.{pair_line, pair_lines, spread_amount, sum_over}
 use Rattle.rules.specs.Pairs.{Made, available, contracts_after, may_of, pairs_after, taken}
-use Rattle.rules.specs.declared.Choice.TheVariants.{Pair}
 use Rattle.rules.specs.declared.Layout.{Layout}
+use Rattle.rules.specs.declared.Tally.{Tally}
 
 -- The pair of rows w and h with the smaller quantity left.
 abbrev pub pair_of : List ℕ → ℕ → ℕ → Made
@@ -37,7 +38,7 @@ pub record PairAsked (b : List ℕ) (l : Layout) (left numbers : List ℕ) (k w 
 pub record PairWritten (a : Account) (k w h : ℕ) (left₀ numbers₀ left numbers : List ℕ) (amount : ℕ) : Type 0 where
   pub amount_is : amount ≡ spread_amount a (pair_of left₀ w h)
   pub amount_most : amount ≤ 10_000_000_000_000_000
-  pub left_is : (r : ℕ) → r < a.positions → nth left r ≡ taken (nth left₀) (Pair w h) r
+  pub left_is : (r : ℕ) → r < a.positions → nth left r ≡ taken (nth left₀) (Some (w, h)) r
   pub line_is : line_from numbers k ≡ pair_line a (pair_of left₀ w h)
   pub before : (i : ℕ) → i < numbers_per_line * k → nth numbers i ≡ nth numbers₀ i
   pub left_length : length left ≡ length left₀
@@ -61,7 +62,9 @@ pub record PairedBy (n : ℕ) (a : Account) (left numbers : List ℕ) (t : Tally
 
 -- What the rounds ask: the rows stand, room for the lines, and the pairs that there are, one of each round.
 pub record RoundsAsked (b : List ℕ) (l : Layout) (left numbers table tree places : List ℕ) (before : Tally) : Type 0 where
-  pub rows : RowsAsked b l left table tree places
+  pub rests : Rests b l left table
+  pub lines : Lines (account_of b l) table
+  pub standings : Standings (account_of b l) left table tree places
   pub room : most_pair_numbers ≤ length numbers
   pub paired : PairedBy before.count (account_of b l) left numbers before
 

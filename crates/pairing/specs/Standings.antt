@@ -1,12 +1,14 @@
 -- What stands for all rows: the lines of rows with the same terms, the leaves of the tree, and what each step of a round
 -- makes of them.
 use Rattle.std.specs.Prelude.{ℕ, ◌+◌, ◌/◌, ◌%◌, ◌≤◌, ◌<◌, Bool, true, List, ◌⊎◌, ◌≡◌, length}
+use Rattle.account.specs.Accepted.{account_in}
 use Rattle.account.specs.Known.{Known}
 use Rattle.lanes.specs.Keys.{line_column, none, pairs_as_written, place_of, start, table_size, top}
 use Rattle.lanes.specs.Marks.{Sorted, Table}
 use Rattle.numbers.specs.Lists.{nth}
-use Rattle.pairing.specs.Cursors.{Kept, Live, Places, Rests, Row, Shut, rank_at}
+use Rattle.pairing.specs.Cursors.{Kept, Live, Places, Shut, rank_at}
 use Rattle.pairing.specs.declared.Standing.{Standing}
+use Rattle.pairing.specs.declared.rows_now.RowsNow.{RowsNow}
 use Rattle.rules.specs.File.{Account, account_of}
 use Rattle.rules.specs.Limits.{most_positions}
 use Rattle.rules.specs.Pairs.{gap_of, may_of}
@@ -209,59 +211,57 @@ pub record Prepared (a : Account) (table : List ℕ) : Type 0 where
   pub lines : Lines a table
 
 -- The first look at row w.
-pub record BeginAsked (b : List ℕ) (l : Layout) (left table tree places : List ℕ) (w : ℕ) : Type 0 where
-  pub row : Row b l left table w
-  pub leaves : Leaves (account_of b l) left table w most_positions tree places
+pub record BeginAsked (r : RowsNow) (tree places : List ℕ) (w : ℕ) : Type 0 where
+  pub row : w < r.file.layout.positions
+  pub leaves : Leaves (account_in r.file) r.left.now r.table.now w most_positions tree places
 
 -- The row after row w in line.
-pub record NextAsked (b : List ℕ) (l : Layout) (left table tree places : List ℕ) (w : ℕ) : Type 0 where
-  pub row : Row b l left table w
-  pub lines : Lines (account_of b l) table
-  pub begun : Begun (account_of b l) left table w tree places
+pub record NextAsked (r : RowsNow) (tree places : List ℕ) (w : ℕ) : Type 0 where
+  pub row : w < r.file.layout.positions
+  pub lines : Lines (account_in r.file) r.table.now
+  pub begun : Begun (account_in r.file) r.left.now r.table.now w tree places
 
 -- The first look at all rows.
-pub record BeginAllAsked (b : List ℕ) (l : Layout) (left table tree places : List ℕ) : Type 0 where
-  pub rests : Rests b l left table
-  pub lines : Lines (account_of b l) table
-  pub leaves : Leaves (account_of b l) left table 0 most_positions tree places
+pub record BeginAllAsked (r : RowsNow) (tree places : List ℕ) : Type 0 where
+  pub lines : Lines (account_in r.file) r.table.now
+  pub leaves : Leaves (account_in r.file) r.left.now r.table.now 0 most_positions tree places
 
 -- Row w ranked from the places of row v.
-pub record RankAsked (b : List ℕ) (l : Layout) (left table tree places : List ℕ) (v w : ℕ) (climb : Bool) : Type 0 where
-  pub row : Row b l left table w
-  pub from_row : v < l.positions
-  pub leaves : Leaves (account_of b l) left table l.positions w tree places
-  pub cursors : Places (account_of b l) left w (nth places v) (nth places (down_column + v))
-  pub right : climb ≡ true → Tree l.positions tree
+pub record RankAsked (r : RowsNow) (tree places : List ℕ) (v w : ℕ) (climb : Bool) : Type 0 where
+  pub row : w < r.file.layout.positions
+  pub from_row : v < r.file.layout.positions
+  pub leaves : Leaves (account_in r.file) r.left.now r.table.now r.file.layout.positions w tree places
+  pub cursors : Places (account_in r.file) r.left.now w (nth places v) (nth places (down_column + v))
+  pub right : climb ≡ true → Tree r.file.layout.positions tree
 
 -- Row w, which is stale.
-pub record RenewAsked (b : List ℕ) (l : Layout) (left table tree places : List ℕ) (w : ℕ) (climb : Bool) : Type 0 where
-  pub row : Row b l left table w
-  pub lines : Lines (account_of b l) table
-  pub leaves : Leaves (account_of b l) left table l.positions most_positions tree places
-  pub stale : Stale (account_of b l) left tree w
-  pub right : climb ≡ true → Tree l.positions tree
+pub record RenewAsked (r : RowsNow) (tree places : List ℕ) (w : ℕ) (climb : Bool) : Type 0 where
+  pub row : w < r.file.layout.positions
+  pub lines : Lines (account_in r.file) r.table.now
+  pub leaves : Leaves (account_in r.file) r.left.now r.table.now r.file.layout.positions most_positions tree places
+  pub stale : Stale (account_in r.file) r.left.now tree w
+  pub right : climb ≡ true → Tree r.file.layout.positions tree
 
 -- Row w, stale or not.
-pub record LookAsked (b : List ℕ) (l : Layout) (left table tree places : List ℕ) (w : ℕ) : Type 0 where
-  pub row : Row b l left table w
-  pub lines : Lines (account_of b l) table
-  pub leaves : Leaves (account_of b l) left table l.positions most_positions tree places
+pub record LookAsked (r : RowsNow) (tree places : List ℕ) (w : ℕ) : Type 0 where
+  pub row : w < r.file.layout.positions
+  pub lines : Lines (account_in r.file) r.table.now
+  pub leaves : Leaves (account_in r.file) r.left.now r.table.now r.file.layout.positions most_positions tree places
 
 -- All rows.
-pub record RowsAsked (b : List ℕ) (l : Layout) (left table tree places : List ℕ) : Type 0 where
-  pub rests : Rests b l left table
-  pub lines : Lines (account_of b l) table
-  pub standings : Standings (account_of b l) left table tree places
+pub record RowsAsked (r : RowsNow) (tree places : List ℕ) : Type 0 where
+  pub lines : Lines (account_in r.file) r.table.now
+  pub standings : Standings (account_in r.file) r.left.now r.table.now tree places
 
 -- All rows, where the least is row w's and stale.
-pub record StaleAsked (b : List ℕ) (l : Layout) (left table tree places : List ℕ) (w : ℕ) : Type 0 where
-  pub rows : RowsAsked b l left table tree places
-  pub least : StaleLeast (account_of b l) left tree w
+pub record StaleAsked (r : RowsNow) (tree places : List ℕ) (w : ℕ) : Type 0 where
+  pub rows : RowsAsked r tree places
+  pub least : StaleLeast (account_in r.file) r.left.now tree w
 
 -- The least, of rows w and h, which is not settled.
-pub record LeastAsked (b : List ℕ) (l : Layout) (left table tree places : List ℕ) (w h : ℕ) : Type 0 where
-  pub rows : RowsAsked b l left table tree places
+pub record LeastAsked (r : RowsNow) (tree places : List ℕ) (w h : ℕ) : Type 0 where
+  pub rows : RowsAsked r tree places
   pub some : nth tree 1 < none
   pub written_is : w ≡ nth tree 1 / 256 % 256
   pub held_is : h ≡ nth tree 1 % 256
-  pub unsettled : Settled left places (nth tree 1) → ⊥
+  pub unsettled : Settled r.left.now places (nth tree 1) → ⊥

@@ -7,8 +7,9 @@ pub mod make;
 pub mod pairs;
 pub mod queue;
 pub mod rows;
+pub mod rows_now;
 
-use rules::{MOST_POSITIONS, Series, Terms};
+use rules::{MOST_POSITIONS, Series, Tally, Terms};
 
 // A written row as a search reads it once: its terms after flag 1, its series and its unit margin.
 #[derive(Clone, Copy)]
@@ -30,7 +31,7 @@ pub struct Standing {
 }
 
 // The columns of the places, beside the up lane's from 0 on: the down lane's, and the units of the spreads. In contracts
-// `down_column` and `spread_column`.
+// `down_column` and `spread_column`, by which `Standings` speaks of one list (a).
 pub const DOWN_PLACES: usize = MOST_POSITIONS;
 
 pub const SPREADS: usize = 2 * MOST_POSITIONS;
@@ -39,13 +40,6 @@ pub const SPREADS: usize = 2 * MOST_POSITIONS;
 pub const PLACES_SIZE: usize = 3 * MOST_POSITIONS;
 
 pub const TREE_SIZE: usize = 2 * MOST_POSITIONS;
-
-// How many lines there are, and the sum of their amounts.
-#[derive(Clone, Copy)]
-pub struct Tally {
-    pub count: usize,
-    pub total: u64,
-}
 
 // The pairs after a call: how many of the first `count` there are, and all that are then made.
 #[derive(Clone, Copy)]

@@ -1,21 +1,21 @@
 // The pairs of an accepted file, all or the first of them.
 ghost use Rattle.std.specs.Prelude.{◌+◌};
+ghost use Rattle.account.specs.Accepted.{account_in};
 ghost use Rattle.pairing.specs.Pairing.{PairedUp, PairingAsked, RoundsAsked, RoundsMade};
-ghost use Rattle.rules.specs.File.{account_of};
 
 use crate::make::make_pair;
 use crate::queue::fill_rows;
-use crate::rows::{begin_rows, best_rank};
-use crate::{Instalment, PLACES_SIZE, SPREADS, TREE_SIZE, Tally};
+use crate::rows_now::RowsNow;
+use crate::{Instalment, PLACES_SIZE, SPREADS, TREE_SIZE};
+use account::accepted::AcceptedFile;
 use lanes::keys::NONE;
-use rules::Layout;
+use rules::Tally;
 use tree::set_leaves;
 
 // Round by round after the pairs that there are: the pair of the least rank, until no row has one or as many are made as
 // allowed at most. With each pair the allowance falls.
 fn pair_rounds(
-    file: &[u8],
-    l: Layout,
+    file: &AcceptedFile<'_>,
     left: &mut [u64],
     numbers: &mut [u64],
     table: &[u64],
@@ -24,20 +24,26 @@ fn pair_rounds(
     before: Tally,
     most: u64,
 ) -> Tally
-    requires { RoundsAsked file.now l left.old numbers.old table.now tree.old places.old before }
-    ensures { RoundsMade (before.count + most) (account_of file.now l) left.new numbers.new table.now tree.new places.new result }
+    requires { RoundsAsked file.now.bytes.now file.now.layout left.old numbers.old table.now tree.old places.old before }
+    ensures { RoundsMade (before.count + most) (account_in file.now) left.new numbers.new table.now tree.new places.new result }
 {
     let mut k = before.count;
     let mut total = before.total;
     let mut allowance = most;
+    // No `for`: document 01 names this form, "Pair allowance falls; pairs made stand in the result and equal the definition's count".
     while 0 < allowance {
-        let m = best_rank(file, l, left, table, tree, places);
+        let rows = RowsNow {
+            file: *file,
+            left,
+            table,
+        };
+        let m = rows.best_rank(tree, places);
         if NONE <= m {
             return Tally { count: k, total };
         }
         let w = (m / 256 % 256) as usize;
         let h = (m % 256) as usize;
-        total += make_pair(file, l, left, numbers, k, w, h, places[SPREADS + w]);
+        total += make_pair(file, left, numbers, k, w, h, places[SPREADS + w]);
         k += 1;
         allowance -= 1;
     }
@@ -50,19 +56,18 @@ fn pair_rounds(
 // sets no further ones to 0 but a number for each series.
 // Without rows there is nothing to pair, and a tree has at least one leaf.
 pub fn pair_up(
-    file: &[u8],
-    l: Layout,
+    file: &AcceptedFile<'_>,
     count: u64,
     allowance: u64,
     table: &mut [u64],
     left: &mut [u64],
     numbers: &mut [u64],
 ) -> Instalment
-    requires { PairingAsked file.now l table.old left.old numbers.old }
-    ensures { PairedUp (account_of file.now l) count allowance table.new left.new numbers.new result }
+    requires { PairingAsked file.now.bytes.now file.now.layout table.old left.old numbers.old }
+    ensures { PairedUp (account_in file.now) count allowance table.new left.new numbers.new result }
 {
     let none = Tally { count: 0, total: 0 };
-    if l.positions == 0 {
+    if file.layout.positions == 0 {
         return Instalment {
             first: 0,
             pairs: none,
@@ -70,12 +75,16 @@ pub fn pair_up(
     }
     let mut tree = [0u64; TREE_SIZE];
     let mut places = [0u64; PLACES_SIZE];
-    fill_rows(file, l, table, numbers, &mut tree, &mut places);
-    set_leaves(&mut tree, l.positions, NONE);
-    begin_rows(file, l, left, table, &mut tree, &mut places);
+    fill_rows(file, table, numbers, &mut tree, &mut places);
+    set_leaves(&mut tree, file.layout.positions, NONE);
+    let rows = RowsNow {
+        file: *file,
+        left,
+        table,
+    };
+    rows.begin_rows(&mut tree, &mut places);
     let first = pair_rounds(
         file,
-        l,
         left,
         numbers,
         table,
@@ -86,7 +95,6 @@ pub fn pair_up(
     );
     let pairs = pair_rounds(
         file,
-        l,
         left,
         numbers,
         table,

@@ -1,10 +1,9 @@
 -- What the sums and products of one row ask of its size. Every row of an accepted file has it.
-use Rattle.std.specs.Prelude.{ℕ, ◌≤◌}
+use Rattle.std.specs.Prelude.{ℕ, ◌≤◌, Result, Ok, Err}
 use Rattle.rules.specs.OnePosition.{unit_margin}
-use Rattle.rules.specs.declared.AmountAnswer.{AmountAnswer}
-use Rattle.rules.specs.declared.AmountAnswer.TheVariants.{Amount, NoAmount}
 use Rattle.rules.specs.declared.Position.{Position}
 use Rattle.rules.specs.declared.Series.{Series}
+use Rattle.rules.specs.declared.Refused.{Refused}
 
 pub record RowFits (s : Series) (p : Position) : Type 0 where
   pub unit_most : unit_margin s p ≤ 100_000_000_000_000
@@ -13,6 +12,6 @@ pub record RowFits (s : Series) (p : Position) : Type 0 where
   pub premium_most : p.premium ≤ 10_000_000
 
 -- The amount of an answer, 0 where it is refused.
-abbrev pub amount_in : AmountAnswer → ℕ
-amount_in (Amount n) = n
-amount_in (NoAmount w i) = 0
+abbrev pub amount_in : Result ℕ Refused → ℕ
+amount_in (Ok n) = n
+amount_in (Err refusal) = 0

@@ -21,10 +21,9 @@ fn or_rebate(s: Series, t: Terms) -> u64
 fn bare_charge(s: Series, t: Terms, low: u64, high: u64) -> u64
     ensures { result ≡ bare s.option s t (worst s.option low high) }
 {
-    let option = s.option;
     larger(
         minimum_margin(s),
-        payoff_at(s, t, worst_price(option, low, high)),
+        payoff_at(s, t, worst_price(s.option, low, high)),
     )
 }
 
@@ -32,12 +31,11 @@ fn bare_charge(s: Series, t: Terms, low: u64, high: u64) -> u64
 fn most_charge(s: Series, t: Terms, low: u64, high: u64) -> u64
     ensures { result ≡ most s.option s t (worst s.option low high) }
 {
-    let option = s.option;
     larger(
         minimum_margin(s),
         larger(
             rebate_of(t),
-            payoff_at(s, t, worst_price(option, low, high)),
+            payoff_at(s, t, worst_price(s.option, low, high)),
         ),
     )
 }
@@ -113,6 +111,5 @@ pub fn unit_margin(s: Series, t: Terms, knockedOut: bool) -> u64
     if knockedOut {
         return rebate_of(t);
     }
-    let barrier = t.barrier;
-    unit_by(barrier, s, t)
+    unit_by(t.barrier, s, t)
 }

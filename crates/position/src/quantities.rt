@@ -29,18 +29,14 @@ pub fn minimum_margin(s: Series) -> u64
 pub fn normalised(p: Position) -> Terms
     ensures { result ≡ normal p }
 {
-    let terms = p.terms;
-    let flags = p.flags;
-    if flags.knockedIn {
-        let limiter = terms.limiter;
+    if p.flags.knockedIn {
         return Terms {
-            pe: terms.pe,
-            limiter,
             barrier: Barrier::NoBarrier,
             reb: 0,
+            ..p.terms
         };
     }
-    terms
+    p.terms
 }
 
 pub fn rebate_of(t: Terms) -> u64
@@ -63,9 +59,8 @@ pub fn limit_or(limiter: Limiter, x: u64) -> u64
 fn call_payoff(s: Series, t: Terms, high: u64) -> u64
     ensures { result ≡ call_payoff s t high }
 {
-    let limiter = t.limiter;
     less(
-        smaller(limit_or(limiter, high_price(s)), high),
+        smaller(limit_or(t.limiter, high_price(s)), high),
         fine_units(t.pe),
     )
 }
@@ -74,10 +69,9 @@ fn call_payoff(s: Series, t: Terms, high: u64) -> u64
 fn put_payoff(s: Series, t: Terms, low: u64) -> u64
     ensures { result ≡ put_payoff s t low }
 {
-    let limiter = t.limiter;
     less(
         fine_units(t.pe),
-        larger(limit_or(limiter, low_price(s)), low),
+        larger(limit_or(t.limiter, low_price(s)), low),
     )
 }
 
@@ -95,8 +89,7 @@ pub fn worst_price(option: OptionType, low: u64, high: u64) -> u64
 pub fn payoff_at(s: Series, t: Terms, x: u64) -> u64
     ensures { result ≡ charge s.option s t x }
 {
-    let option = s.option;
-    match option {
+    match s.option {
         OptionType::Call => call_payoff(s, t, x),
         OptionType::Put => put_payoff(s, t, x),
     }

@@ -12,6 +12,7 @@ fn next_root(n: u64, root: u64) -> u64
     ensures { Root (n + 1) result }
 {
     let mut s = root;
+    // A `while`, as the test alone ends it: `(root..).find(..)` would give an `Option` that is never `None`.
     while s * s * 360 < (n + 1) * 1_000_000_000_000 {
         s += 1;
     }
@@ -19,9 +20,7 @@ fn next_root(n: u64, root: u64) -> u64
 }
 
 fn print_entry(rt: &impl Print, s: u64) {
-    let _ = rt.write_all(b"    ");
-    let _ = rt.print(s);
-    let _ = rt.write_all(b",\n");
+    let _ = println!(rt; "    {s},");
 }
 
 fn main(rt: HostRuntime) {
@@ -29,12 +28,10 @@ fn main(rt: HostRuntime) {
         b"// Entry n is S(n), the least s with s * s * 360 at least n * 10^12. Printed by the program roots_table.\npub const ROOTS: [u32; 1801] = [\n",
     );
     let mut s: u64 = 0;
-    let mut n: u64 = 0;
     print_entry(&rt, s);
-    while n < MOST_DAYS {
+    for n in 0..MOST_DAYS {
         s = next_root(n, s);
         print_entry(&rt, s);
-        n += 1;
     }
     let _ = rt.write_all(b"];\n");
 }

@@ -23,8 +23,7 @@ use Rattle.rules.specs.declared.Position.{Position}
 use Rattle.rules.specs.declared.Series.{Series}
 use Rattle.rules.specs.declared.Side.{Side}
 use Rattle.rules.specs.declared.Side.TheVariants.{Held, Written}
-use Rattle.rules.specs.declared.Spread.{Spread}
-use Rattle.rules.specs.declared.Spread.TheVariants.{Margin}
+use Rattle.std.specs.Prelude.{Option, Some}
 
 -- On every choice of paths each written row pays at most its unit margin.
 abbrev pub RowsCovered : Account → Type 0
@@ -38,7 +37,7 @@ abbrev pub PairsCovered : Account → Type 0
 PairsCovered a =
     (path : ℕ → List ℕ) → OnePathEach a path
     → (w h : ℕ) → w < a.positions → h < a.positions → may_of a w h ≡ true
-    → (u : ℕ) → unit_spread (series_of_row a w) (a.position_at h) (a.position_at w) ≡ Margin u
+    → (u : ℕ) → unit_spread (series_of_row a w) (a.position_at h) (a.position_at w) ≡ Some u
     → row_payment a path w ≤ u + row_payment a path h
 
 -- What one contract of a row pays out.
@@ -60,8 +59,8 @@ row_covered Written s p pays q c =
     (arith, (rounded_to_reais (unit_margin s p * s.m * q)).not_below, mul-le-mul_right q (mul-le-mul_right s.m (c refl)))
 
 -- A pair's line, with what its held row brings in, covers what its written row pays out.
-pair_covered : (x y : Side) (spread : Spread) (u paysw paysh mw mh q : ℕ)
-    → x ≡ Written → y ≡ Held → spread ≡ Margin u → mh ≡ mw → paysw ≤ u + paysh
+pair_covered : (x y : Side) (spread : Option ℕ) (u paysw paysh mw mh q : ℕ)
+    → x ≡ Written → y ≡ Held → spread ≡ Some u → mh ≡ mw → paysw ≤ u + paysh
     → (pays_each x paysw mw + pays_each y paysh mh) * q ≤ 1_000_000 * amount_of (spread_unit spread) mw q + paysh * mh * q
 pair_covered x y spread u paysw paysh mw mh q ex ey es em l =
     rw (ex, ey, es, em) (omega (arith, (rounded_to_reais (u * mw * q)).not_below, mul-le-mul_right q (mul-le-mul_right mw l)))

@@ -13,14 +13,12 @@ use Rattle.rules.proofs.InstalmentAnswers.{FirstPairs, first_length, first_more,
 use Rattle.rules.proofs.InstalmentLaws.{pairs_fewer}
 use Rattle.rules.specs.File.{Account}
 use Rattle.rules.specs.Instalments.{PairedList, all_pairs, first_pairs, pair_answer}
-use Rattle.rules.specs.Refusals.{accepted, meaning}
+use Rattle.rules.specs.Refusals.{accepted, meaning, refused_at}
 use Rattle.rules.specs.TakingApart.{after_apart, apart_answer, count_after, list_apart, list_taken, zero_entries, zero_entry}
-use Rattle.rules.specs.declared.ApartAnswer.{ApartAnswer}
-use Rattle.rules.specs.declared.ApartAnswer.TheVariants.{NotTakenApart, TakenApart}
 use Rattle.rules.specs.declared.Line.{Line}
-use Rattle.rules.specs.declared.PairAnswer.{PairAnswer}
-use Rattle.rules.specs.declared.PairAnswer.TheVariants.{NotPaired, Paired}
 use Rattle.rules.specs.declared.Refusal.{Refusal}
+use Rattle.std.specs.Prelude.{Result, Ok, Err}
+use Rattle.rules.specs.declared.Refused.{Refused}
 
 -- The lines of the first pairs begin with those of fewer.
 first_fewer : (a : Account) (left k : ℕ) → left + k ≤ length (all_pairs a) → take left (first_pairs a (left + k)) ≡ first_pairs a left
@@ -29,12 +27,12 @@ first_fewer a left k h =
 
 -- "Every lent list keeps its content": after a refusal the list is what it was, whatever it held.
 pub apart_leaves : (b : List ℕ) (out : List Line) (count k : ℕ) (w : Refusal) (row : ℕ)
-    → apart_answer b out count k ≡ NotTakenApart w row → list_apart b out count k ≡ out
+    → apart_answer b out count k ≡ refused_at w row → list_apart b out count k ≡ out
 unfolding list_apart
 apart_leaves b out count k w row q = rw q
 
 -- The list after a call that is not refused.
-module _ (b : List ℕ) (out : List Line) (count k left : ℕ) (q : apart_answer b out count k ≡ TakenApart left) where
+module _ (b : List ℕ) (out : List Line) (count k left : ℕ) (q : apart_answer b out count k ≡ Ok left) where
   -- The pair lines that are left, k entries of zeros, and the entries after the former count as they were.
   pub apart_parts : list_apart b out count k ≡ take left out ++ (zero_entries k ++ drop count out)
   unfolding list_apart
@@ -119,29 +117,29 @@ module _ (b : List ℕ) (out : List Line) (count k : ℕ) where
   pub apart_before : take (count - k) (list_apart b out count k) ≡ take (count - k) out
   apart_before = go (apart_answer b out count k) refl
     where
-      go : (x : ApartAnswer) → apart_answer b out count k ≡ x → take (count - k) (list_apart b out count k) ≡ take (count - k) out
-      go (NotTakenApart w row) q = ap (take (count - k)) (apart_leaves b out count k w row q)
-      go (TakenApart left) q =
+      go : (x : Result ℕ Refused) → apart_answer b out count k ≡ x → take (count - k) (list_apart b out count k) ≡ take (count - k) out
+      go (Err refusal) q = ap (take (count - k)) (apart_leaves b out count k refusal.why refusal.row q)
+      go (Ok left) q =
           let same : left ≡ count - k = (apart_told b out count k left q 0).3 in
           subst (λ (n : ℕ). take n (list_apart b out count k) ≡ take n out) same (parts_before b out count k left q)
 
   pub apart_after : drop count (list_apart b out count k) ≡ drop count out
   apart_after = go (apart_answer b out count k) refl
     where
-      go : (x : ApartAnswer) → apart_answer b out count k ≡ x → drop count (list_apart b out count k) ≡ drop count out
-      go (NotTakenApart w row) q = ap (drop count) (apart_leaves b out count k w row q)
-      go (TakenApart left) q = parts_after b out count k left q
+      go : (x : Result ℕ Refused) → apart_answer b out count k ≡ x → drop count (list_apart b out count k) ≡ drop count out
+      go (Err refusal) q = ap (drop count) (apart_leaves b out count k refusal.why refusal.row q)
+      go (Ok left) q = parts_after b out count k left q
 
   pub apart_length : length (list_apart b out count k) ≡ length out
   apart_length = go (apart_answer b out count k) refl
     where
-      go : (x : ApartAnswer) → apart_answer b out count k ≡ x → length (list_apart b out count k) ≡ length out
-      go (NotTakenApart w row) q = ap length (apart_leaves b out count k w row q)
-      go (TakenApart left) q = parts_length b out count k left q
+      go : (x : Result ℕ Refused) → apart_answer b out count k ≡ x → length (list_apart b out count k) ≡ length out
+      go (Err refusal) q = ap length (apart_leaves b out count k refusal.why refusal.row q)
+      go (Ok left) q = parts_length b out count k left q
 
 -- After a refusal a caller keeps list and count as they were.
 pub kept_refused : (b : List ℕ) (kept : PairedList) (k : ℕ) (w : Refusal) (row : ℕ)
-    → apart_answer b kept.list kept.count k ≡ NotTakenApart w row → after_apart b k kept ≡ kept
+    → apart_answer b kept.list kept.count k ≡ refused_at w row → after_apart b k kept ≡ kept
 kept_refused b kept k w row q =
     λ i.
     record {
@@ -153,9 +151,9 @@ kept_refused b kept k w row q =
 pub none_taken : (b : List ℕ) (kept : PairedList) → after_apart b 0 kept ≡ kept
 none_taken b kept = go (apart_answer b kept.list kept.count 0) refl
   where
-    go : (x : ApartAnswer) → apart_answer b kept.list kept.count 0 ≡ x → after_apart b 0 kept ≡ kept
-    go (NotTakenApart w row) q = kept_refused b kept 0 w row q
-    go (TakenApart left) q =
+    go : (x : Result ℕ Refused) → apart_answer b kept.list kept.count 0 ≡ x → after_apart b 0 kept ≡ kept
+    go (Err refusal) q = kept_refused b kept 0 refusal.why refusal.row q
+    go (Ok left) q =
         let same : left ≡ kept.count = omega (arith, left_count b kept.list kept.count 0 left q) in
         let lists =
         apart_parts b kept.list kept.count 0 left q
@@ -167,14 +165,14 @@ none_taken b kept = go (apart_answer b kept.list kept.count 0) refl
 -- Taking apart k and then m is taking apart k + m, where there are as many; whatever the answer.
 module _ (b : List ℕ) (kept : PairedList) (k m : ℕ) (h : k + m ≤ kept.count) where
   -- Not refused: the count between, and what is kept then.
-  module _ (made : ℕ) (p : pair_answer b kept.list kept.count 0 ≡ Paired made) where
+  module _ (made : ℕ) (p : pair_answer b kept.list kept.count 0 ≡ Ok made) where
     abbrev between : PairedList
     between = record { list = list_apart b kept.list kept.count k; count = kept.count - k }
 
-    first_told : apart_answer b kept.list kept.count k ≡ TakenApart (kept.count - k)
+    first_told : apart_answer b kept.list kept.count k ≡ Ok (kept.count - k)
     first_told = paired_apart b kept.list kept.count 0 made p k (omega (arith, h))
 
-    second_told : apart_answer b between.list between.count m ≡ TakenApart (kept.count - k - m)
+    second_told : apart_answer b between.list between.count m ≡ Ok (kept.count - k - m)
     second_told =
         let known = pair_accepted b kept.list kept.count 0 made p in
         apart_goes b known.0 known.1 between.list between.count
@@ -201,7 +199,7 @@ module _ (b : List ℕ) (kept : PairedList) (k m : ℕ) (h : k + m ≤ kept.coun
     rest_same : kept.count - k - m ≡ kept.count - (k + m)
     rest_same = omega (arith, h)
 
-    both_told : apart_answer b kept.list kept.count (k + m) ≡ TakenApart (kept.count - (k + m))
+    both_told : apart_answer b kept.list kept.count (k + m) ≡ Ok (kept.count - (k + m))
     both_told = paired_apart b kept.list kept.count 0 made p (k + m) h
 
     twice_list : list_apart b between.list between.count m ≡ list_apart b kept.list kept.count (k + m)
@@ -219,13 +217,13 @@ module _ (b : List ℕ) (kept : PairedList) (k m : ℕ) (h : k + m ≤ kept.coun
   pub apart_twice : after_apart b m (after_apart b k kept) ≡ after_apart b (k + m) kept
   apart_twice = go (pair_answer b kept.list kept.count 0) refl
     where
-      go : (x : PairAnswer) → pair_answer b kept.list kept.count 0 ≡ x
+      go : (x : Result ℕ Refused) → pair_answer b kept.list kept.count 0 ≡ x
           → after_apart b m (after_apart b k kept) ≡ after_apart b (k + m) kept
-      go (NotPaired w row) p =
+      go (Err refusal) p =
           let stays : (n : ℕ) → after_apart b n kept ≡ kept =
-          λ n. kept_refused b kept n w row (refused_like_pairs b kept.list kept.count 0 w row p n) in
+          λ n. kept_refused b kept n refusal.why refusal.row (refused_like_pairs b kept.list kept.count 0 refusal.why refusal.row p n) in
           ap (after_apart b m) (stays k) ∙ stays m ∙ sym (stays (k + m))
-      go (Paired made) p =
+      go (Ok made) p =
           ap (λ (n : ℕ). after_apart b m (record { list = list_apart b kept.list kept.count k; count = n }))
           (ap (count_after kept.count) (first_told made p))
           ∙ twice_taken made p

@@ -18,14 +18,12 @@ use Rattle.rules.specs.File.{Account}
 use Rattle.rules.specs.Instalments.{HalfPaired, PairedList, after_call, amount_so_far, first_pairs, list_paired, made_of, pair_answer, pairs_told}
 use Rattle.rules.specs.Lines.{entries_for, left_with_blocked, pair_lines, sum_over, total_after}
 use Rattle.rules.specs.Promises.{pair_quantity}
-use Rattle.rules.specs.Refusals.{accepted, meaning}
+use Rattle.rules.specs.Refusals.{accepted, meaning, refused_at}
 use Rattle.rules.specs.TakingApart.{BackDemand, GoesBack, after_apart, apart_answer, back_again, contracts_left, count_after, list_apart, made_with}
-use Rattle.rules.specs.declared.AmountAnswer.TheVariants.{Amount}
-use Rattle.rules.specs.declared.ApartAnswer.TheVariants.{TakenApart}
 use Rattle.rules.specs.declared.Line.{Line}
-use Rattle.rules.specs.declared.PairAnswer.{PairAnswer}
-use Rattle.rules.specs.declared.PairAnswer.TheVariants.{NotPaired, Paired}
 use Rattle.rules.specs.declared.Refusal.{Refusal}
+use Rattle.std.specs.Prelude.{Result, Ok, Err}
+use Rattle.rules.specs.declared.Refused.{Refused}
 
 -- Where the first pairs stand in a list, the contracts left in a row are those after as many rounds.
 pub contracts_stand : (b : List ℕ) (a : Account) → meaning b ≡ accepted a → (kept : PairedList)
@@ -42,10 +40,10 @@ contracts_stand b a e kept long stand r there =
 
 -- A pairing that is refused, and the taking apart, which is refused alike, leave all as it was.
 module _ (b : List ℕ) (kept : PairedList) (k : ℕ) (w : Refusal) (row : ℕ)
-    (q : pair_answer b kept.list kept.count k ≡ NotPaired w row) where
+    (q : pair_answer b kept.list kept.count k ≡ refused_at w row) where
   call_leaves : after_call b k kept ≡ kept
   call_leaves =
-      let counts = ap (λ (x : PairAnswer). kept.count + pairs_told x) q ∙ add-zero kept.count in
+      let counts = ap (λ (x : Result ℕ Refused). kept.count + pairs_told x) q ∙ add-zero kept.count in
       λ i. record { list = refusal_leaves b kept.list kept.count k w row q i; count = counts i }
 
   refused_stays : back_again b k kept ≡ kept
@@ -66,14 +64,14 @@ module _ (b : List ℕ) (kept : PairedList) (k : ℕ) (w : Refusal) (row : ℕ)
       }
 
 -- A pairing that is not refused: `after` is the list then, `back_list` after the taking apart.
-module _ (b : List ℕ) (kept : PairedList) (k made : ℕ) (q : pair_answer b kept.list kept.count k ≡ Paired made) where
+module _ (b : List ℕ) (kept : PairedList) (k made : ℕ) (q : pair_answer b kept.list kept.count k ≡ Ok made) where
   abbrev after : List Line
   after = list_paired b kept.list kept.count k
 
   abbrev back_list : List Line
   back_list = list_apart b after (kept.count + made) made
 
-  made_apart : apart_answer b after (kept.count + made) made ≡ TakenApart kept.count
+  made_apart : apart_answer b after (kept.count + made) made ≡ Ok kept.count
   made_apart =
       let known = pair_accepted b kept.list kept.count k made q in
       let only = pair_only b known.0 known.1 kept.list kept.count k made q in
@@ -81,18 +79,18 @@ module _ (b : List ℕ) (kept : PairedList) (k made : ℕ) (q : pair_answer b ke
       apart_goes b known.0 known.1 after (kept.count + made)
       (omega (arith, list_length b kept.list kept.count k, only.0))
       (next_stand b known.0 known.1 kept.list kept.count k made q) made (omega arith)
-      ∙ ap TakenApart same
+      ∙ ap Ok same
 
   -- The taking apart answers the former count.
-  told_apart : apart_answer b (after_call b k kept).list (after_call b k kept).count made ≡ TakenApart kept.count
-  told_apart = ap (λ (x : PairAnswer). apart_answer b after (kept.count + pairs_told x) made) q ∙ made_apart
+  told_apart : apart_answer b (after_call b k kept).list (after_call b k kept).count made ≡ Ok kept.count
+  told_apart = ap (λ (x : Result ℕ Refused). apart_answer b after (kept.count + pairs_told x) made) q ∙ made_apart
 
   abbrev back_kept : PairedList
   back_kept = record { list = back_list; count = kept.count }
 
   back_is : back_again b k kept ≡ back_kept
   back_is =
-      ap (λ (x : PairAnswer). after_apart b (pairs_told x) (record { list = after; count = kept.count + pairs_told x })) q
+      ap (λ (x : Result ℕ Refused). after_apart b (pairs_told x) (record { list = after; count = kept.count + pairs_told x })) q
       ∙ ap (λ (n : ℕ). record { list = back_list; count = n }) (ap (count_after (kept.count + made)) made_apart)
 
   -- The list is as long as it was, with the former pair lines, and the entries after those of the pairs made.
@@ -108,7 +106,7 @@ module _ (b : List ℕ) (kept : PairedList) (k made : ℕ) (q : pair_answer b ke
   back_after : drop (kept.count + made) back_list ≡ drop (kept.count + made) kept.list
   back_after =
       apart_after b after (kept.count + made) made
-      ∙ subst (λ (x : PairAnswer). drop (kept.count + pairs_told x) after ≡ drop (kept.count + pairs_told x) kept.list) q
+      ∙ subst (λ (x : Result ℕ Refused). drop (kept.count + pairs_told x) after ≡ drop (kept.count + pairs_told x) kept.list) q
       (entries_after b kept.list kept.count k)
 
   -- So pairing again answers the same, and writes the same lines.
@@ -119,10 +117,10 @@ module _ (b : List ℕ) (kept : PairedList) (k made : ℕ) (q : pair_answer b ke
     back_room : entries_for a.positions ≤ length back_list
     back_room = omega (arith, back_length, (pair_only b a e kept.list kept.count k made q).0)
 
-    again_made : pair_answer b back_list kept.count k ≡ Paired made
+    again_made : pair_answer b back_list kept.count k ≡ Ok made
     again_made =
         pair_goes b a e back_list kept.count back_room back_stand k
-        ∙ ap Paired (sym (pair_only b a e kept.list kept.count k made q).2)
+        ∙ ap Ok (sym (pair_only b a e kept.list kept.count k made q).2)
 
     again_list : list_paired b back_list kept.count k ≡ after
     again_list =
@@ -135,11 +133,11 @@ module _ (b : List ℕ) (kept : PairedList) (k made : ℕ) (q : pair_answer b ke
       let known = pair_accepted b kept.list kept.count k made q in
       let told : pair_answer b back_list kept.count k ≡ pair_answer b kept.list kept.count k =
       again_made known.0 known.1 ∙ sym q in
-      let counts = ap (λ (x : PairAnswer). kept.count + pairs_told x) told in
+      let counts = ap (λ (x : Result ℕ Refused). kept.count + pairs_told x) told in
       record {
         told_is = λ n p.
             let same : made ≡ n = cc in
-            subst (λ (x : ℕ). apart_answer b (after_call b k kept).list (after_call b k kept).count x ≡ TakenApart kept.count) same
+            subst (λ (x : ℕ). apart_answer b (after_call b k kept).list (after_call b k kept).count x ≡ Ok kept.count) same
             told_apart;
         count_is = refl;
         lines_are = back_before;
@@ -155,12 +153,12 @@ module _ (b : List ℕ) (kept : PairedList) (k made : ℕ) (q : pair_answer b ke
 pub back : (b : List ℕ) → BackDemand b
 back b kept k = go (pair_answer b kept.list kept.count k) refl
   where
-    go : (x : PairAnswer) → pair_answer b kept.list kept.count k ≡ x → GoesBack b k kept (back_again b k kept)
-    go (NotPaired w row) q = subst (GoesBack b k kept) (sym (refused_stays b kept k w row q)) (refused_back b kept k w row q)
-    go (Paired made) q = subst (GoesBack b k kept) (sym (back_is b kept k made q)) (made_back b kept k made q)
+    go : (x : Result ℕ Refused) → pair_answer b kept.list kept.count k ≡ x → GoesBack b k kept (back_again b k kept)
+    go (Err refusal) q = subst (GoesBack b k kept) (sym (refused_stays b kept k refusal.why refusal.row q)) (refused_back b kept k refusal.why refusal.row q)
+    go (Ok made) q = subst (GoesBack b k kept) (sym (back_is b kept k made q)) (made_back b kept k made q)
 
 -- The list after taking apart k.
-module _ (b : List ℕ) (kept : PairedList) (k left : ℕ) (q : apart_answer b kept.list kept.count k ≡ TakenApart left)
+module _ (b : List ℕ) (kept : PairedList) (k left : ℕ) (q : apart_answer b kept.list kept.count k ≡ Ok left)
     (a : Account) (e : meaning b ≡ accepted a) where
   abbrev less : List Line
   less = list_apart b kept.list kept.count k
@@ -178,10 +176,10 @@ module _ (b : List ℕ) (kept : PairedList) (k left : ℕ) (q : apart_answer b k
   count_again : left + k ≡ kept.count
   count_again = left_count b kept.list kept.count k left q
 
-  made_again : pair_answer b less left k ≡ Paired k
+  made_again : pair_answer b less left k ≡ Ok k
   made_again =
       let all : made_of a left k ≡ k = omega (arith, stand.count_most, count_again) in
-      pair_goes b a e less left less_room less_stand k ∙ ap Paired all
+      pair_goes b a e less left less_room less_stand k ∙ ap Ok all
 
   list_again : list_paired b less left k ≡ kept.list
   list_again =
@@ -191,7 +189,7 @@ module _ (b : List ℕ) (kept : PairedList) (k left : ℕ) (q : apart_answer b k
       ∙ take-append-drop kept.count kept.list
 
   -- The amount so far is that after the pairs that are left.
-  pub apart_amount : amount_so_far b less left ≡ Amount (total_after a left)
+  pub apart_amount : amount_so_far b less left ≡ Ok (total_after a left)
   apart_amount = so_far_goes b a e less left less_room less_stand
 
   -- So what is promised of a half-paired account holds of it,
@@ -205,18 +203,18 @@ module _ (b : List ℕ) (kept : PairedList) (k left : ℕ) (q : apart_answer b k
       ∙ contracts_stand b a e (record { list = less; count = left }) less_room less_stand r there
 
 -- The other way round: after taking apart k, pairing with an allowance of k makes k pairs, and gives back list and count.
-pub apart_paired : (b : List ℕ) (kept : PairedList) (k left : ℕ) → apart_answer b kept.list kept.count k ≡ TakenApart left
-    → (pair_answer b (after_apart b k kept).list left k ≡ Paired k) × (after_call b k (after_apart b k kept) ≡ kept)
+pub apart_paired : (b : List ℕ) (kept : PairedList) (k left : ℕ) → apart_answer b kept.list kept.count k ≡ Ok left
+    → (pair_answer b (after_apart b k kept).list left k ≡ Ok k) × (after_call b k (after_apart b k kept) ≡ kept)
 apart_paired b kept k left q = (told, again)
   where
     account : (a : Account) × (meaning b ≡ accepted a)
     account = apart_accepted b kept.list kept.count k left q
 
-    told : pair_answer b (less b kept k left q account.0 account.1) left k ≡ Paired k
+    told : pair_answer b (less b kept k left q account.0 account.1) left k ≡ Ok k
     told = made_again b kept k left q account.0 account.1
 
     counts : left + pairs_told (pair_answer b (list_apart b kept.list kept.count k) left k) ≡ kept.count
-    counts = ap (λ (x : PairAnswer). left + pairs_told x) told ∙ count_again b kept k left q account.0 account.1
+    counts = ap (λ (x : Result ℕ Refused). left + pairs_told x) told ∙ count_again b kept k left q account.0 account.1
 
     again : after_call b k (after_apart b k kept) ≡ kept
     again =

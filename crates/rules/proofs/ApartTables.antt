@@ -14,14 +14,13 @@ use Rattle.rules.specs.Instalments.{PairedList, after_call, amount_so_far, begin
 use Rattle.rules.specs.Lines.{left_lines, pair_lines, premiums, sum_over, sum_to}
 use Rattle.rules.specs.OnePosition.{unit_margin}
 use Rattle.rules.specs.Pairs.{along, gap_of, left_after, made_after, may_of, through}
-use Rattle.rules.specs.Refusals.{file_read, matched_fault, position_row_fault, position_rows, refuse, rows, series_row_fault, series_rows, trailer_fault}
+use Rattle.rules.specs.Refusals.{file_read, matched_fault, position_row_fault, position_rows, refuse, refused_at, rows, series_row_fault, series_rows, trailer_fault}
 use Rattle.rules.specs.Spreads.{unit_spread}
 use Rattle.rules.specs.TakingApart.{after_apart, apart_answer, apart_fault, back_again, contracts_left, list_apart}
-use Rattle.rules.specs.declared.AmountAnswer.TheVariants.{Amount}
-use Rattle.rules.specs.declared.ApartAnswer.TheVariants.{NotTakenApart, TakenApart}
 use Rattle.rules.specs.declared.Line.{Line}
 use Rattle.rules.specs.declared.Refusal.{Refusal}
 use Rattle.rules.specs.declared.Refusal.TheVariants.{AboveCount, FileSize, ListTooShort, NotFirstPairs, PositionRange}
+use Rattle.std.specs.Prelude.{Ok}
 
 -- An entry of zeros.
 abbrev zeros : Line
@@ -33,15 +32,15 @@ paired_list out count = record { list = out; count = count }
 -- The new count, by the count and k.
 abbrev Counts : Type 0
 Counts =
-    (apart_answer example no_pairs 0 0 ≡ TakenApart 0)
-    × (apart_answer example one_pair 1 0 ≡ TakenApart 1)
-    × (apart_answer example one_pair 1 1 ≡ TakenApart 0)
-    × (apart_answer example two_pairs 2 0 ≡ TakenApart 2)
-    × (apart_answer example two_pairs 2 1 ≡ TakenApart 1)
-    × (apart_answer example two_pairs 2 2 ≡ TakenApart 0)
+    (apart_answer example no_pairs 0 0 ≡ Ok 0)
+    × (apart_answer example one_pair 1 0 ≡ Ok 1)
+    × (apart_answer example one_pair 1 1 ≡ Ok 0)
+    × (apart_answer example two_pairs 2 0 ≡ Ok 2)
+    × (apart_answer example two_pairs 2 1 ≡ Ok 1)
+    × (apart_answer example two_pairs 2 2 ≡ Ok 0)
     -- Entries from count on are not looked at.
-    × (apart_answer example two_pairs 1 1 ≡ TakenApart 0)
-    × (apart_answer example two_pairs 0 0 ≡ TakenApart 0)
+    × (apart_answer example two_pairs 1 1 ≡ Ok 0)
+    × (apart_answer example two_pairs 0 0 ≡ Ok 0)
 
 -- The list after a call: the latest lines are removed, and the entries after the count stay, a pair line too.
 abbrev ListsApart : Type 0
@@ -57,8 +56,8 @@ ListsApart =
     × (list_apart example (enough_of first_pair second_pair) 2 2 ≡ enough_of zeros zeros)
     -- One after the other, as both at once; the amount after it, as before the pair.
     × (after_apart example 1 (after_apart example 1 (paired_list two_pairs 2)) ≡ paired_list (list_of zeros zeros) 0)
-    × (amount_so_far example (list_apart example two_pairs 2 1) 1 ≡ Amount 17_800)
-    × (amount_so_far example (list_apart example two_pairs 2 2) 0 ≡ Amount 25_300)
+    × (amount_so_far example (list_apart example two_pairs 2 1) 1 ≡ Ok 17_800)
+    × (amount_so_far example (list_apart example two_pairs 2 2) 0 ≡ Ok 25_300)
 
 -- Row 0 has 10 contracts, of which the pairs take 3 and 4; rows 1 and 2 have 4 and 3.
 abbrev left : ℕ → PairedList → ℕ → Type 0
@@ -91,7 +90,7 @@ RoundTrips =
 
 -- Refused with row 0, and the list stays as it is.
 abbrev refused : Refusal → List Line → ℕ → ℕ → Type 0
-refused w out count k = (apart_answer example out count k ≡ NotTakenApart w 0) × (list_apart example out count k ≡ out)
+refused w out count k = (apart_answer example out count k ≡ refused_at w 0) × (list_apart example out count k ≡ out)
 
 -- 19: k above the count, whatever stands after the count.
 abbrev AboveTheCount : Type 0
@@ -129,17 +128,17 @@ Order =
     × refused ListTooShort (short_of (mark 7) (mark 8)) 1 2
     × refused ListTooShort (short_of first_pair second_pair) 2 3
     × refused ListTooShort (short_of first_pair second_pair) 2 1
-    × (apart_answer (7 ∷ []) [] 0 1 ≡ NotTakenApart FileSize 0)
-    × (apart_answer (7 ∷ []) (mark 7 ∷ []) 1 2 ≡ NotTakenApart FileSize 0)
+    × (apart_answer (7 ∷ []) [] 0 1 ≡ refused_at FileSize 0)
+    × (apart_answer (7 ∷ []) (mark 7 ∷ []) 1 2 ≡ refused_at FileSize 0)
     × (list_apart (7 ∷ []) (mark 7 ∷ []) 1 1 ≡ mark 7 ∷ [])
-    × (apart_answer (two_rows (row_bytes 0 1 0 4 10 3100 0 0 0 1)) [] 1 2 ≡ NotTakenApart PositionRange 1)
+    × (apart_answer (two_rows (row_bytes 0 1 0 4 10 3100 0 0 0 1)) [] 1 2 ≡ refused_at PositionRange 1)
 
 -- Without positions there are no pairs.
 abbrev NoPairs : Type 0
 NoPairs =
-    (apart_answer no_rows [] 0 0 ≡ TakenApart 0)
-    × (apart_answer no_rows [] 0 1 ≡ NotTakenApart AboveCount 0)
-    × (apart_answer no_rows [] 1 1 ≡ NotTakenApart NotFirstPairs 0)
+    (apart_answer no_rows [] 0 0 ≡ Ok 0)
+    × (apart_answer no_rows [] 0 1 ≡ refused_at AboveCount 0)
+    × (apart_answer no_rows [] 1 1 ≡ refused_at NotFirstPairs 0)
     × (list_apart no_rows (mark 7 ∷ []) 0 0 ≡ mark 7 ∷ [])
     × (list_apart no_rows (mark 7 ∷ []) 0 huge ≡ mark 7 ∷ [])
     × (back_again no_rows huge (paired_list [] 0) ≡ paired_list [] 0)

@@ -12,22 +12,18 @@ use Rattle.rules.proofs.InstalmentTables.{line_of, mark}
 use Rattle.rules.specs.Day.{day_fault, day_written, file_after, flags_after}
 use Rattle.rules.specs.File.{account_of, layout, position_row, series_row, span}
 use Rattle.rules.specs.Instalments.{amount_so_far, begins_with, instalment_fault, list_paired, pair_answer}
-use Rattle.rules.specs.Lines.{entries_for, left_lines, lines, lines_given, margin_answer, most_lines, pair_lines, premium_answer, premiums, sum_over, sum_to, total}
+use Rattle.rules.specs.Lines.{comes_to, entries_for, left_lines, lines, lines_given, margin_answer, most_lines, pair_lines, premium_answer, premiums, sum_over, sum_to, total}
 use Rattle.rules.specs.OnePosition.{amount_answer, position_amount, signed_answer, unit_margin}
 use Rattle.rules.specs.Pairs.{along, available, contracts_after, gap_of, left_after, made_after, may_of, through}
 use Rattle.rules.specs.Promises.{unpaired}
-use Rattle.rules.specs.Refusals.{file_read, matched_fault, meaning, position_row_fault, position_rows, refuse, refused, rows, series_row_fault, series_rows, trailer_fault}
+use Rattle.rules.specs.Refusals.{file_read, matched_fault, meaning, position_row_fault, position_rows, refuse, refused, refused_at, rows, series_row_fault, series_rows, trailer_fault}
 use Rattle.rules.specs.Spreads.{unit_spread}
 use Rattle.rules.specs.TakingApart.{apart_answer, apart_fault, contracts_left, list_apart}
 use Rattle.rules.specs.Writing.{stores}
-use Rattle.rules.specs.declared.AmountAnswer.TheVariants.{Amount}
-use Rattle.rules.specs.declared.ApartAnswer.TheVariants.{TakenApart}
 use Rattle.rules.specs.declared.Day.{Day}
-use Rattle.rules.specs.declared.FileRead.TheVariants.{Accepted}
 use Rattle.rules.specs.declared.Line.{Line}
-use Rattle.rules.specs.declared.MarginAnswer.TheVariants.{NoTotal, Total}
-use Rattle.rules.specs.declared.PairAnswer.TheVariants.{Paired}
 use Rattle.rules.specs.declared.Refusal.TheVariants.{ListTooShort}
+use Rattle.std.specs.Prelude.{Ok}
 
 -- A European row without barrier: side, number blocked, Q, PE, PB, premium.
 abbrev row_with : ℕ → ℕ → ℕ → ℕ → ℕ → ℕ → List ℕ
@@ -46,7 +42,7 @@ account p rows = typed_bytes 3000 0 ++ rows ++ trailer_bytes 1 p (span 1 p) 0
 
 -- A row by itself is accepted, and refused.
 abbrev Taken : List ℕ → Type 0
-Taken row = file_read (account 1 row) ≡ Accepted (record { series = 1; positions = 1; seriesStart = 0; positionsStart = 24; width = 32 })
+Taken row = file_read (account 1 row) ≡ Ok (record { series = 1; positions = 1; seriesStart = 0; positionsStart = 24; width = 32 })
 
 abbrev Turned : ℕ → List ℕ → Type 0
 Turned number row = meaning (account 1 row) ≡ refused number 0
@@ -84,10 +80,10 @@ some_pair = line_of 1 0 1 3 2_300
 abbrev SomeBlocked : Type 0
 SomeBlocked =
     (lines_given some 6 ≡ some_pair ∷ line_of 2 0 7 17_500 0 ∷ line_of 2 1 1 0 0 ∷ line_of 2 2 3 0 0 ∷ [])
-    × (margin_answer some 6 ≡ Total 4 20_100)
-    × (margin_answer some 5 ≡ NoTotal ListTooShort 0)
+    × (margin_answer some 6 ≡ comes_to 4 20_100)
+    × (margin_answer some 5 ≡ refused_at ListTooShort 0)
     -- Premiums, and a held row's amount, are over Q
-    × (premium_answer some ≡ Amount 300)
+    × (premium_answer some ≡ Ok 300)
     × (signed_answer (amount_answer some 2) ≡ pos 300)
     -- What pairing may use at the start, and after all pairs
     × (available (account_of some (layout some)) 1 ≡ 3)
@@ -106,11 +102,11 @@ left x count row = contracts_left (account_of some (layout some)) (record { list
 
 abbrev InInstalments : Type 0
 InInstalments =
-    (pair_answer some (six_with (mark 7)) 0 5 ≡ Paired 1)
+    (pair_answer some (six_with (mark 7)) 0 5 ≡ Ok 1)
     × (list_paired some (six_with (mark 7)) 0 5 ≡ six_with some_pair)
-    × (amount_so_far some (six_with (mark 7)) 0 ≡ Amount 25_300)
-    × (amount_so_far some (six_with some_pair) 1 ≡ Amount 20_100)
-    × (apart_answer some (six_with some_pair) 1 1 ≡ TakenApart 0)
+    × (amount_so_far some (six_with (mark 7)) 0 ≡ Ok 25_300)
+    × (amount_so_far some (six_with some_pair) 1 ≡ Ok 20_100)
+    × (apart_answer some (six_with some_pair) 1 1 ≡ Ok 0)
     × (list_apart some (six_with some_pair) 1 1 ≡ six_with (mark 0))
     × (left some_pair 1 0 ≡ 7)
     × (left some_pair 1 1 ≡ 1)
@@ -152,10 +148,10 @@ eight =
 
 abbrev MostLines : Type 0
 MostLines =
-    (margin_answer one 2 ≡ Total (2 * 1 - 1) 25_000)
-    × (margin_answer two 4 ≡ Total (2 * 2 - 1) 22_500)
-    × (margin_answer eight 16 ≡ Total (2 * 8 - 1) 7_500)
-    × (margin_answer eight 15 ≡ NoTotal ListTooShort 0)
+    (margin_answer one 2 ≡ comes_to (2 * 1 - 1) 25_000)
+    × (margin_answer two 4 ≡ comes_to (2 * 2 - 1) 22_500)
+    × (margin_answer eight 16 ≡ comes_to (2 * 8 - 1) 7_500)
+    × (margin_answer eight 15 ≡ refused_at ListTooShort 0)
     × (entries_for 8 ≡ 16)
     × (most_lines ≡ 512)
 

@@ -7,13 +7,12 @@ use mathlib.Core.Path.{◌≡◌, refl, sym, ◌∙◌, ap}
 use borrow.Author.Tests.{eq-eqb, eqb-true, le-ltb, ltb-false, not-false}
 use lib.Dec.{eqb, ltb}
 use Rattle.rules.proofs.Tests.{both_fail, neither}
-use Rattle.rules.specs.Refusals.{Check, first_fault, nonzero, outside, refuse}
-use Rattle.rules.specs.declared.Fault.{Fault}
-use Rattle.rules.specs.declared.Fault.TheVariants.{Clean, Found}
+use Rattle.rules.specs.Refusals.{Check, Fault, clean, first_fault, nonzero, outside, refuse}
 use Rattle.rules.specs.declared.Refusal.{Refusal}
+use Rattle.std.specs.Prelude.{Err}
 
 -- For code: r is the flag that it computed for the test t.
-pub stops : (r t : Bool) (w : Refusal) (f : Fault) → r ≡ t → r ≡ true → Found w ≡ refuse t w f
+pub stops : (r t : Bool) (w : Refusal) (f : Fault) → r ≡ t → r ≡ true → Err w ≡ refuse t w f
 unfolding refuse
 stops r true w f e h = refl
 stops r false w f e h = absurd (true≢false (sym h ∙ e))
@@ -29,13 +28,13 @@ AllPass [] = Unit {0}
 AllPass ((test, w) ∷ later) = (test ≡ false) × AllPass later
 
 -- There is no fault exactly where no test holds.
-pub all_pass : (l : List Check) → first_fault l ≡ Clean → AllPass l
+pub all_pass : (l : List Check) → first_fault l ≡ clean → AllPass l
 unfolding refuse
 all_pass [] e = tt
 all_pass ((true, w) ∷ later) e = let z : ◌≡◌ {A = Bool} true false = cc in absurd (true≢false z)
 all_pass ((false, w) ∷ later) e = (refl, all_pass later e)
 
-pub all_clean : (l : List Check) → AllPass l → first_fault l ≡ Clean
+pub all_clean : (l : List Check) → AllPass l → first_fault l ≡ clean
 unfolding refuse
 all_clean [] h = refl
 all_clean ((true, w) ∷ later) h = absurd (true≢false h.0)

@@ -5,20 +5,17 @@ use Prim.Native.Nat.{ℕ}
 use mathlib.Core.List.{List, [], ◌∷◌, ◌++◌}
 use mathlib.Core.Path.{◌≡◌, refl}
 use Rattle.rules.specs.File.{layout, position_row, series_row, span}
-use Rattle.rules.specs.Lines.{left_lines, lines, lines_given, list_after, margin_answer, pair_lines, premiums, sum_over, sum_to, total}
+use Rattle.rules.specs.Lines.{comes_to, left_lines, lines, lines_given, list_after, margin_answer, pair_lines, premiums, sum_over, sum_to, total}
 use Rattle.rules.specs.OnePosition.{amount_answer, position_amount, unit_margin}
 use Rattle.rules.specs.Pairs.{along, left_after, made_after, may_of, through}
-use Rattle.rules.specs.Refusals.{file_read, matched_fault, meaning, position_row_fault, position_rows, refuse, refused, rows, series_row_fault, series_rows, trailer_fault}
+use Rattle.rules.specs.Refusals.{clean, file_read, matched_fault, meaning, position_row_fault, position_rows, refuse, refused, refused_at, rows, series_row_fault, series_rows, trailer_fault}
 use Rattle.rules.specs.Spreads.{unit_spread}
 use Rattle.rules.specs.Writing.{bytes2, bytes4}
-use Rattle.rules.specs.declared.AmountAnswer.TheVariants.{Amount, NoAmount}
-use Rattle.rules.specs.declared.Fault.TheVariants.{Clean, Found}
-use Rattle.rules.specs.declared.FileRead.TheVariants.{Accepted}
 use Rattle.rules.specs.declared.Line.{Line}
-use Rattle.rules.specs.declared.MarginAnswer.TheVariants.{NoTotal, Total}
 use Rattle.rules.specs.declared.PositionRow.{PositionRow}
 use Rattle.rules.specs.declared.Refusal.TheVariants.{Trailer, SeriesRange, SeriesType, PositionTerms, PositionRange, LimiterPrice, BarrierPrice, BarrierSide, ListTooShort, RowAskedFor}
 use Rattle.rules.specs.declared.SeriesRow.{SeriesRow}
+use Rattle.std.specs.Prelude.{Ok, Err}
 
 -- A call series row with the PV, type and spare number given.
 abbrev series_with : ℕ → ℕ → ℕ → SeriesRow
@@ -48,41 +45,41 @@ call = series_with 3000 0 0
 -- Each row has the two faults named; the first is found.
 pub order :
     -- 5 before 6
-    (series_row_fault (series_with 0 2 0) ≡ Found SeriesRange)
-    × (series_row_fault (series_with 3000 2 0) ≡ Found SeriesType)
+    (series_row_fault (series_with 0 2 0) ≡ Err SeriesRange)
+    × (series_row_fault (series_with 3000 2 0) ≡ Err SeriesType)
     -- 7 before 8: kind 5, Q 0
-    × (position_row_fault 1 call (row_with 5 4 0 0 0 0) ≡ Found PositionTerms)
+    × (position_row_fault 1 call (row_with 5 4 0 0 0 0) ≡ Err PositionTerms)
     -- 7 before 10: flag 1 on kind 3, price 0
-    × (position_row_fault 1 call (row_with 3 5 10 0 0 0) ≡ Found PositionTerms)
+    × (position_row_fault 1 call (row_with 3 5 10 0 0 0) ≡ Err PositionTerms)
     -- 8 before 9: Q 0, PB = PE
-    × (position_row_fault 1 call (row_with 0 6 0 3100 0 0) ≡ Found PositionRange)
+    × (position_row_fault 1 call (row_with 0 6 0 3100 0 0) ≡ Err PositionRange)
     -- 8 before 10: REB 10,000,001 on kind 0
-    × (position_row_fault 1 call (row_with 0 4 10 0 0 10_000_001) ≡ Found PositionRange)
+    × (position_row_fault 1 call (row_with 0 4 10 0 0 10_000_001) ≡ Err PositionRange)
     -- 9 before 10: PB = PE, a price on kind 0
-    × (position_row_fault 1 call (row_with 0 6 10 3100 7 0) ≡ Found LimiterPrice)
+    × (position_row_fault 1 call (row_with 0 6 10 3100 7 0) ≡ Err LimiterPrice)
     -- 9 before 11: PB without its flag, barrier = PV
-    × (position_row_fault 1 call (row_with 1 4 10 3300 3000 0) ≡ Found LimiterPrice)
+    × (position_row_fault 1 call (row_with 1 4 10 3300 3000 0) ≡ Err LimiterPrice)
     -- 10 before 11: price 0 of an up barrier
-    × (position_row_fault 1 call (row_with 1 4 10 0 0 0) ≡ Found BarrierPrice)
+    × (position_row_fault 1 call (row_with 1 4 10 0 0 0) ≡ Err BarrierPrice)
     -- 10 stays under flag 1
-    × (position_row_fault 1 call (row_with 1 5 10 0 10_000_001 0) ≡ Found BarrierPrice)
+    × (position_row_fault 1 call (row_with 1 5 10 0 10_000_001 0) ≡ Err BarrierPrice)
     -- 11: barrier = PV; under flag 1 it is free
-    × (position_row_fault 1 call (row_with 1 4 10 0 3000 0) ≡ Found BarrierSide)
-    × (position_row_fault 1 call (row_with 1 5 10 0 3000 0) ≡ Clean)
+    × (position_row_fault 1 call (row_with 1 4 10 0 3000 0) ≡ Err BarrierSide)
+    × (position_row_fault 1 call (row_with 1 5 10 0 3000 0) ≡ clean)
     -- 7: flag 16 on kinds 0, 1 and 2, and with flag 1 on kinds 2 and 3; a bit that is no flag
-    × (position_row_fault 1 call (row_with 0 20 10 0 0 0) ≡ Found PositionTerms)
-    × (position_row_fault 1 call (row_with 1 20 10 0 3500 0) ≡ Found PositionTerms)
-    × (position_row_fault 1 call (row_with 2 20 10 0 2500 0) ≡ Found PositionTerms)
-    × (position_row_fault 1 call (row_with 2 21 10 0 2500 0) ≡ Found PositionTerms)
-    × (position_row_fault 1 call (row_with 3 21 10 0 3500 0) ≡ Found PositionTerms)
-    × (position_row_fault 1 call (row_with 3 36 10 0 3500 0) ≡ Found PositionTerms)
+    × (position_row_fault 1 call (row_with 0 20 10 0 0 0) ≡ Err PositionTerms)
+    × (position_row_fault 1 call (row_with 1 20 10 0 3500 0) ≡ Err PositionTerms)
+    × (position_row_fault 1 call (row_with 2 20 10 0 2500 0) ≡ Err PositionTerms)
+    × (position_row_fault 1 call (row_with 2 21 10 0 2500 0) ≡ Err PositionTerms)
+    × (position_row_fault 1 call (row_with 3 21 10 0 3500 0) ≡ Err PositionTerms)
+    × (position_row_fault 1 call (row_with 3 36 10 0 3500 0) ≡ Err PositionTerms)
     -- 10 stays under flag 16
-    × (position_row_fault 1 call (row_with 3 20 10 0 10_000_001 0) ≡ Found BarrierPrice)
+    × (position_row_fault 1 call (row_with 3 20 10 0 10_000_001 0) ≡ Err BarrierPrice)
     -- 11: an out barrier = PV; under flag 16 it is free, on either side of PV
-    × (position_row_fault 1 call (row_with 3 4 10 0 3000 0) ≡ Found BarrierSide)
-    × (position_row_fault 1 call (row_with 3 20 10 0 3000 0) ≡ Clean)
-    × (position_row_fault 1 call (row_with 3 20 10 0 2000 0) ≡ Clean)
-    × (position_row_fault 1 call (row_with 4 20 10 0 4000 0) ≡ Clean)
+    × (position_row_fault 1 call (row_with 3 4 10 0 3000 0) ≡ Err BarrierSide)
+    × (position_row_fault 1 call (row_with 3 20 10 0 3000 0) ≡ clean)
+    × (position_row_fault 1 call (row_with 3 20 10 0 2000 0) ≡ clean)
+    × (position_row_fault 1 call (row_with 4 20 10 0 4000 0) ≡ clean)
 unfolding series_row_fault position_row_fault matched_fault refuse
 order =
     (refl, refl, refl, refl, refl, refl, refl, refl, refl, refl, refl, refl, refl, refl, refl, refl, refl, refl, refl, refl, refl, refl, refl)
@@ -146,9 +143,9 @@ pub file_order :
     × (meaning (file 3000 1 (position_bytes 0 0 1 0 ++ position_bytes 0 0 1 0)) ≡ refused 6 1)
     × (meaning (file 3000 0 (position_bytes 0 0 1 0 ++ position_bytes 0 1 1 0)) ≡ refused 7 1)
     -- Accepted, after a cover sheet of three bytes that is not read
-    × (file_read (255 ∷ 1 ∷ 2 ∷ file 3000 0 (position_bytes 1 0 1 3001 ++ position_bytes 2 0 1 2999)) ≡ Accepted (record { series = 2; positions = 2; seriesStart = 3; positionsStart = 51; width = 32 }))
+    × (file_read (255 ∷ 1 ∷ 2 ∷ file 3000 0 (position_bytes 1 0 1 3001 ++ position_bytes 2 0 1 2999)) ≡ Ok (record { series = 2; positions = 2; seriesStart = 3; positionsStart = 51; width = 32 }))
     -- The same without positions
-    × (file_read (255 ∷ 1 ∷ 2 ∷ no_rows) ≡ Accepted (record { series = 1; positions = 0; seriesStart = 3; positionsStart = 27; width = 32 }))
+    × (file_read (255 ∷ 1 ∷ 2 ∷ no_rows) ≡ Ok (record { series = 1; positions = 0; seriesStart = 3; positionsStart = 27; width = 32 }))
 unfolding meaning file_read layout series_row position_row series_rows position_rows rows trailer_fault series_row_fault position_row_fault matched_fault refuse
 file_order = (refl, refl, refl, refl, refl, refl, refl, refl, refl, refl, refl, refl, refl, refl, refl, refl)
 
@@ -165,17 +162,17 @@ entry n = record { kind = n; secondNumber = n; thirdNumber = n; fourthNumber = n
 -- The list and the row asked for come after the file.
 pub later_refusals :
     -- 2 before 12 and before 13
-    (margin_answer (trailer_bytes 0 0 12 0) 0 ≡ NoTotal Trailer 0)
-    × (amount_answer (trailer_bytes 0 0 12 0) 9 ≡ NoAmount Trailer 0)
+    (margin_answer (trailer_bytes 0 0 12 0) 0 ≡ refused_at Trailer 0)
+    × (amount_answer (trailer_bytes 0 0 12 0) 9 ≡ refused_at Trailer 0)
     -- 12: "given below 2 × p entries"; they keep their content
-    × (margin_answer two 3 ≡ NoTotal ListTooShort 0)
+    × (margin_answer two 3 ≡ refused_at ListTooShort 0)
     × (list_after two (entry 7 ∷ entry 8 ∷ entry 9 ∷ []) ≡ entry 7 ∷ entry 8 ∷ entry 9 ∷ [])
     -- 13: "row p or above"; row 1 has 500 ticks × 5 centavos
-    × (amount_answer two 2 ≡ NoAmount RowAskedFor 0)
-    × (amount_answer two 1 ≡ Amount 2_500)
+    × (amount_answer two 2 ≡ refused_at RowAskedFor 0)
+    × (amount_answer two 1 ≡ Ok 2_500)
     -- Without positions every list is long enough, and no row is there
-    × (margin_answer no_rows 0 ≡ Total 0 0)
-    × (amount_answer no_rows 0 ≡ NoAmount RowAskedFor 0)
+    × (margin_answer no_rows 0 ≡ comes_to 0 0)
+    × (amount_answer no_rows 0 ≡ refused_at RowAskedFor 0)
 unfolding margin_answer amount_answer list_after lines_given lines left_lines pair_lines left_after made_after premiums total sum_to sum_over file_read layout series_row position_row series_rows position_rows rows trailer_fault series_row_fault position_row_fault matched_fault refuse position_amount unit_margin
 later_refusals = (refl, refl, refl, refl, refl, refl, refl, refl)
 

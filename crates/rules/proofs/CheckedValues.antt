@@ -17,7 +17,7 @@ use Rattle.rules.specs.declared.Position.{Position}
 use Rattle.rules.specs.declared.Series.{Series}
 use Rattle.rules.specs.declared.Side.{Side}
 use Rattle.rules.specs.declared.Side.TheVariants.{Held, Written}
-use Rattle.rules.specs.declared.Spread.TheVariants.{Margin}
+use Rattle.std.specs.Prelude.{Some}
 
 -- "Call series PV 3000, fa 1,200,000, fb 800,000, f3 50,000, M 5 .. Put series alike."
 abbrev pub series : OptionType → Series
@@ -65,11 +65,11 @@ pub checked_values :
     × (unit_of Put 3200 NoLimiter (UpIn 3600) 0 ≡ fine 320)
     × (unit_of Put 2900 NoLimiter (DownOut 2500) 0 ≡ fine 400)
     -- Written call PE 3100: held PE 3250 gives 150, 3600 no pair
-    × (unit_spread (series Call) (row Held 3250 NoLimiter NoBarrier 0) (row Written 3100 NoLimiter NoBarrier 0) ≡ Margin (fine 150))
+    × (unit_spread (series Call) (row Held 3250 NoLimiter NoBarrier 0) (row Written 3100 NoLimiter NoBarrier 0) ≡ Some (fine 150))
     × (may_pair (series Call) (row Written 3100 NoLimiter NoBarrier 0) (row Held 3250 NoLimiter NoBarrier 0) ≡ true)
     × (may_pair (series Call) (row Written 3100 NoLimiter NoBarrier 0) (row Held 3600 NoLimiter NoBarrier 0) ≡ false)
     -- OD 2400 both, REBw 60, REBh 25, PEh 3000: 35
-    × (unit_spread (series Call) (row Held 3000 NoLimiter (DownOut 2400) 25) (row Written 3100 NoLimiter (DownOut 2400) 60) ≡ Margin (fine 35))
+    × (unit_spread (series Call) (row Held 3000 NoLimiter (DownOut 2400) 25) (row Written 3100 NoLimiter (DownOut 2400) 60) ≡ Some (fine 35))
     -- PV 3001, fa 1,234,567, PE 3100, Q 10: 30247 centavos, and "30247 in document 01 becomes 30300" (document 02 [6])
     × (amount_of (unit_margin odd_series (row Written 3100 NoLimiter NoBarrier 0)) odd_series.m 10 ≡ 30_300)
 unfolding unit_margin unit_spread

@@ -7,13 +7,12 @@ use mathlib.Core.List.{List, [], ◌∷◌, ◌++◌}
 use mathlib.Core.Path.{◌≡◌, refl}
 use Rattle.rules.proofs.CheckOrder.{no_rows, trailer_bytes}
 use Rattle.rules.proofs.FileTables.{row_bytes, typed_bytes}
-use Rattle.rules.specs.Day.{crossed_in, crossed_out, day_answer, day_fault, day_written, file_after, flags_after, with_flag1, with_flag16}
+use Rattle.rules.specs.Day.{applied, crossed_in, crossed_out, day_answer, day_fault, day_written, file_after, flags_after, with_flag1, with_flag16}
 use Rattle.rules.specs.File.{layout, position_row, series_row, span}
-use Rattle.rules.specs.Refusals.{file_read, matched_fault, position_row_fault, position_rows, refuse, rows, series_row_fault, series_rows, trailer_fault}
+use Rattle.rules.specs.Refusals.{file_read, matched_fault, position_row_fault, position_rows, refuse, refused_at, rows, series_row_fault, series_rows, trailer_fault}
 use Rattle.rules.specs.Writing.{stores}
 use Rattle.rules.specs.declared.Barrier.TheVariants.{NoBarrier, UpIn, DownIn, UpOut, DownOut}
 use Rattle.rules.specs.declared.Day.{Day}
-use Rattle.rules.specs.declared.DayAnswer.TheVariants.{Applied, NotApplied}
 use Rattle.rules.specs.declared.Refusal.TheVariants.{FileSize, SeriesAskedFor, DayPrices}
 
 abbrev day : ℕ → ℕ → ℕ → ℕ → Day
@@ -79,20 +78,20 @@ bytes_after = (refl, refl, refl, refl, refl, refl, refl)
 
 -- "The reading's refusals first; then 16 .. 17": the first of two faults is answered, with row 0 for 16 and 17.
 pub day_answers :
-    (day_answer (7 ∷ []) (day 9 0 0 0) ≡ NotApplied FileSize 0)
-    × (day_answer no_rows (day 1 0 0 0) ≡ NotApplied SeriesAskedFor 0)
-    × (day_answer no_rows (day 1 3_200 2_800 3_100) ≡ NotApplied SeriesAskedFor 0)
+    (day_answer (7 ∷ []) (day 9 0 0 0) ≡ refused_at FileSize 0)
+    × (day_answer no_rows (day 1 0 0 0) ≡ refused_at SeriesAskedFor 0)
+    × (day_answer no_rows (day 1 3_200 2_800 3_100) ≡ refused_at SeriesAskedFor 0)
     -- 17: high below low; the close below, and above; each of the three out of its range
-    × (day_answer no_rows (day 0 2_799 2_800 2_799) ≡ NotApplied DayPrices 0)
-    × (day_answer no_rows (day 0 3_200 2_800 2_799) ≡ NotApplied DayPrices 0)
-    × (day_answer no_rows (day 0 3_200 2_800 3_201) ≡ NotApplied DayPrices 0)
-    × (day_answer no_rows (day 0 3_200 0 3_100) ≡ NotApplied DayPrices 0)
-    × (day_answer no_rows (day 0 0 0 0) ≡ NotApplied DayPrices 0)
-    × (day_answer no_rows (day 0 10_000_001 2_800 3_100) ≡ NotApplied DayPrices 0)
-    × (day_answer no_rows (day 0 10_000_001 10_000_001 10_000_001) ≡ NotApplied DayPrices 0)
+    × (day_answer no_rows (day 0 2_799 2_800 2_799) ≡ refused_at DayPrices 0)
+    × (day_answer no_rows (day 0 3_200 2_800 2_799) ≡ refused_at DayPrices 0)
+    × (day_answer no_rows (day 0 3_200 2_800 3_201) ≡ refused_at DayPrices 0)
+    × (day_answer no_rows (day 0 3_200 0 3_100) ≡ refused_at DayPrices 0)
+    × (day_answer no_rows (day 0 0 0 0) ≡ refused_at DayPrices 0)
+    × (day_answer no_rows (day 0 10_000_001 2_800 3_100) ≡ refused_at DayPrices 0)
+    × (day_answer no_rows (day 0 10_000_001 10_000_001 10_000_001) ≡ refused_at DayPrices 0)
     -- The ends of the range, and one price all day
-    × (day_answer no_rows (day 0 10_000_000 1 1) ≡ Applied)
-    × (day_answer no_rows (day 0 10_000_000 1 10_000_000) ≡ Applied)
-    × (day_answer no_rows (day 0 1 1 1) ≡ Applied)
+    × (day_answer no_rows (day 0 10_000_000 1 1) ≡ applied)
+    × (day_answer no_rows (day 0 10_000_000 1 10_000_000) ≡ applied)
+    × (day_answer no_rows (day 0 1 1 1) ≡ applied)
 unfolding day_answer day_fault file_read layout series_row position_row series_rows position_rows rows trailer_fault series_row_fault position_row_fault matched_fault refuse
 day_answers = (refl, refl, refl, refl, refl, refl, refl, refl, refl, refl, refl, refl, refl)

@@ -23,15 +23,16 @@ use Rattle.rules.proofs.Reading.{accepted_within}
 use Rattle.rules.proofs.RowFacts.{beside, flag_16_keeps, rebate_none}
 use Rattle.rules.specs.File.{Account, account_of, layout, position_of, position_row, series_of, series_of_row, series_row}
 use Rattle.rules.specs.Limits.{FileWithin}
-use Rattle.rules.specs.Lines.{entries_for, lines, lines_for, lines_given, margin_answer, margin_for_list, total}
+use Rattle.rules.specs.Lines.{comes_to, entries_for, lines, lines_for, lines_given, margin_answer, margin_for_list, total}
 use Rattle.rules.specs.LongExpiries.{CoverLongDemand, NoExceptedPut}
 use Rattle.rules.specs.Paths.{payment}
 use Rattle.rules.specs.Promises.{ContractsDemand, CoverDemand, Least, LeastDemand, LowFactors, UnmadeDemand}
-use Rattle.rules.specs.Refusals.{accepted, file_read, meaning, meant}
-use Rattle.rules.specs.declared.FileRead.{FileRead}
-use Rattle.rules.specs.declared.FileRead.TheVariants.{Accepted, Refused}
-use Rattle.rules.specs.declared.MarginAnswer.TheVariants.{NoTotal, Total}
+use Rattle.rules.specs.Refusals.{accepted, file_read, meaning, meant, refused_at}
 use Rattle.rules.specs.declared.Refusal.TheVariants.{ListTooShort}
+use Rattle.std.specs.Prelude.{Result, Ok, Err}
+use Rattle.rules.specs.declared.Refused.{Refused}
+use Rattle.rules.specs.declared.Layout.{Layout}
+use Rattle.rules.proofs.SameAnswers.{same_total}
 
 -- Row by row, of a file within its limits.
 module _ (b : List ℕ) (h : FileWithin b) where
@@ -139,21 +140,20 @@ least b a e factors =
 
 -- What the operation answers is what the four theorems speak of: where it gives a line count and a total, the file is
 -- accepted, and they and the lines written are its account's.
-pub answered : (b : List ℕ) (n count sum : ℕ) → margin_answer b n ≡ Total count sum
+pub answered : (b : List ℕ) (n count sum : ℕ) → margin_answer b n ≡ comes_to count sum
     → (a : Account) × (meaning b ≡ accepted a) × (count ≡ length (lines a)) × (sum ≡ total a) × (lines_given b n ≡ lines a)
 unfolding margin_answer lines_given meaning
 answered b n count sum e = by_reading (file_read b) refl e
   where
-    by_reading : (x : FileRead) → file_read b ≡ x → margin_for_list b n x ≡ Total count sum
+    by_reading : (x : Result Layout Refused) → file_read b ≡ x → margin_for_list b n x ≡ comes_to count sum
         → (a : Account) × (meaning b ≡ accepted a) × (count ≡ length (lines a)) × (sum ≡ total a) × (lines_given b n ≡ lines a)
-    by_reading (Refused w i) r q = let z : ◌≡◌ {A = ℕ} 0 1 = cc in absurd (omega arith)
-    by_reading (Accepted l) r q = by_room (ltb n (entries_for l.positions)) q
+    by_reading (Err refusal) r q = let z : ◌≡◌ {A = ℕ} 0 1 = cc in absurd (omega arith)
+    by_reading (Ok l) r q = by_room (ltb n (entries_for l.positions)) q
       where
         by_room : (t : Bool)
-            → cond t (NoTotal ListTooShort 0) (Total (length (lines (account_of b l))) (total (account_of b l))) ≡ Total count sum
+            → cond t (refused_at ListTooShort 0) (comes_to (length (lines (account_of b l))) (total (account_of b l))) ≡ comes_to count sum
             → (a : Account) × (meaning b ≡ accepted a) × (count ≡ length (lines a)) × (sum ≡ total a) × (lines_given b n ≡ lines a)
         by_room true p = let z : ◌≡◌ {A = ℕ} 0 1 = cc in absurd (omega arith)
         by_room false p =
-            let c : count ≡ length (lines (account_of b l)) = cc in
-            let s : sum ≡ total (account_of b l) = cc in
-            (account_of b l, ap (meant b) r, c, s, ap₂ (lines_for b) r e)
+            let same = same_total p in
+            (account_of b l, ap (meant b) r, sym same.0, sym same.1, ap₂ (lines_for b) r e)

@@ -8,15 +8,15 @@ use native.Mathlib.Omega.{arith}
 use Rattle.rules.proofs.Reading.{FirstFault, in_positions, in_series, in_trailer, refused_first}
 use Rattle.rules.specs.File.{layout, position_row, series_row}
 use Rattle.rules.specs.Refusals.{Check, first_fault, meaning, number, position_row_checks, position_row_fault, refuse, refused, series_row_checks, series_row_fault, trailer_checks, trailer_fault}
-use Rattle.rules.specs.declared.Fault.TheVariants.{Found}
 use Rattle.rules.specs.declared.Refusal.{Refusal}
+use Rattle.std.specs.Prelude.{Err}
 
 -- Every refusal of the checks is numbered 11 at most.
 abbrev NumbersMost : List Check → Type 0
 NumbersMost [] = Unit {0}
 NumbersMost ((test, w) ∷ later) = (number w ≤ 11) × NumbersMost later
 
-found_most : (l : List Check) → NumbersMost l → (w : Refusal) → first_fault l ≡ Found w → number w ≤ 11
+found_most : (l : List Check) → NumbersMost l → (w : Refusal) → first_fault l ≡ Err w → number w ≤ 11
 unfolding refuse
 found_most [] h w e = let z : ◌≡◌ {A = ℕ} 0 1 = cc in absurd (omega arith)
 found_most ((true, v) ∷ later) h w e = let p : v ≡ w = cc in omega (arith, h.0, ap number p)

@@ -7,20 +7,18 @@ use lib.IntN.{neg_ℤ, pos}
 use Rattle.rules.proofs.CheckOrder.{no_rows, series_row_bytes, trailer_bytes}
 use Rattle.rules.specs.File.{barrier_of, flags_of, limiter_of, option_of, position_row_from, position_width, series_row_from, series_width, side_of, span, trailer_width, u16_at, u24_at, u32_at, u8_at}
 use Rattle.rules.specs.Limits.{most_bytes, most_positions, most_series}
-use Rattle.rules.specs.Lines.{margin_answer, premium_answer}
+use Rattle.rules.specs.Lines.{comes_to, margin_answer, premium_answer}
 use Rattle.rules.specs.OnePosition.{amount_answer, signed_answer}
 use Rattle.rules.specs.Output.{margin_text, premiums_for}
-use Rattle.rules.specs.Refusals.{meaning, refused}
+use Rattle.rules.specs.Refusals.{meaning, refused, refused_at}
 use Rattle.rules.specs.Writing.{bytes4}
-use Rattle.rules.specs.declared.AmountAnswer.TheVariants.{Amount}
 use Rattle.rules.specs.declared.Barrier.TheVariants.{NoBarrier, UpIn, DownIn, UpOut, DownOut}
 use Rattle.rules.specs.declared.Flags.{Flags}
-use Rattle.rules.specs.declared.FileRead.TheVariants.{Refused}
 use Rattle.rules.specs.declared.Limiter.TheVariants.{NoLimiter, At}
 use Rattle.rules.specs.declared.OptionType.TheVariants.{Call, Put}
-use Rattle.rules.specs.declared.MarginAnswer.TheVariants.{NoTotal, Total}
 use Rattle.rules.specs.declared.Refusal.TheVariants.{FileSize, ListTooShort}
 use Rattle.rules.specs.declared.Side.TheVariants.{Held, Written}
+use Rattle.std.specs.Prelude.{Ok}
 
 -- The bytes 1 to 32.
 abbrev pub counted : List ℕ
@@ -170,10 +168,10 @@ Answers =
     × (margin_text (two_rows (row_bytes 0 1 0 4 10 3100 0 0 0 1))
     ≡
     (114 ∷ 101 ∷ 102 ∷ 117 ∷ 115 ∷ 101 ∷ 100 ∷ 32 ∷ 56 ∷ 32 ∷ 49 ∷ 10 ∷ []))
-    × (premiums_for [] (Refused FileSize 0) ≡ 0)
+    × (premiums_for [] (refused_at FileSize 0) ≡ 0)
     -- A list of 2 × p entries is long enough, one of 2 × p - 1 is not
-    × (margin_answer mixed 8 ≡ Total 3 4_880)
-    × (margin_answer mixed 7 ≡ NoTotal ListTooShort 0)
+    × (margin_answer mixed 8 ≡ comes_to 3 4_880)
+    × (margin_answer mixed 7 ≡ refused_at ListTooShort 0)
     -- One position: a written row's amount for all its contracts, a held row's premium; minus 13, minus 8
     × (signed_answer (amount_answer mixed 2) ≡ pos 7_500)
     × (signed_answer (amount_answer mixed 3) ≡ pos 275)
@@ -183,4 +181,4 @@ Answers =
     × (margin_text no_rows
     ≡
     (112 ∷ 114 ∷ 101 ∷ 109 ∷ 105 ∷ 117 ∷ 109 ∷ 32 ∷ 48 ∷ 10 ∷ []) ++ (116 ∷ 111 ∷ 116 ∷ 97 ∷ 108 ∷ 32 ∷ 48 ∷ 10 ∷ []))
-    × (premium_answer no_rows ≡ Amount 0)
+    × (premium_answer no_rows ≡ Ok 0)

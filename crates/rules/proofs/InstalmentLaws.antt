@@ -19,11 +19,12 @@ use Rattle.rules.specs.File.{Account}
 use Rattle.rules.specs.Instalments.{all_pairs, amount_for_list, amount_so_far, begins_with, instalment_fault, list_for, list_paired, made_of, not_first_pairs, pair_answer, pair_for_file, same_line}
 use Rattle.rules.specs.Lines.{entries_for, left_lines, line_amount, pair_lines, premiums, sum_over, total, total_after}
 use Rattle.rules.specs.Pairs.{Made, available, book_of, contracts_after, pairs_after}
-use Rattle.rules.specs.Refusals.{file_read, refuse}
-use Rattle.rules.specs.declared.Fault.TheVariants.{Clean, Found}
-use Rattle.rules.specs.declared.FileRead.{FileRead}
+use Rattle.rules.specs.Refusals.{clean, file_read, refuse}
 use Rattle.rules.specs.declared.Line.{Line}
 use Rattle.rules.specs.declared.Refusal.TheVariants.{ListTooShort, NotFirstPairs}
+use Rattle.std.specs.Prelude.{Result, Err}
+use Rattle.rules.specs.declared.Refused.{Refused}
+use Rattle.rules.specs.declared.Layout.{Layout}
 
 -- Entries with the same five numbers are the same, and an entry has the same as itself.
 pub same_line_lem : (x y : Line) → same_line x y ≡ true → x ≡ y
@@ -143,29 +144,29 @@ module _ (a : Account) where
 
 -- The answers, and the list, by the reading.
 module _ (b : List ℕ) (out : List Line) (count : ℕ) where
-  pub pair_read : (allowance : ℕ) (x : FileRead) → file_read b ≡ x → pair_answer b out count allowance ≡ pair_for_file b out count allowance x
+  pub pair_read : (allowance : ℕ) (x : Result Layout Refused) → file_read b ≡ x → pair_answer b out count allowance ≡ pair_for_file b out count allowance x
   unfolding pair_answer
   pair_read allowance x r = ap (pair_for_file b out count allowance) r
 
-  pub list_read : (allowance : ℕ) (x : FileRead) → file_read b ≡ x
+  pub list_read : (allowance : ℕ) (x : Result Layout Refused) → file_read b ≡ x
       → list_paired b out count allowance ≡ list_for b out count x (pair_for_file b out count allowance x)
   unfolding list_paired pair_answer
-  list_read allowance x r = ap (λ (y : FileRead). list_for b out count y (pair_for_file b out count allowance y)) r
+  list_read allowance x r = ap (λ (y : Result Layout Refused). list_for b out count y (pair_for_file b out count allowance y)) r
 
-  pub amount_read : (x : FileRead) → file_read b ≡ x → amount_so_far b out count ≡ amount_for_list b out count x
+  pub amount_read : (x : Result Layout Refused) → file_read b ≡ x → amount_so_far b out count ≡ amount_for_list b out count x
   unfolding amount_so_far
   amount_read x r = ap (amount_for_list b out count) r
 
 -- The three ways through the checks after the reading: 12, 18, neither.
 module _ (a : Account) (out : List Line) (count : ℕ) where
-  pub fault_short : length out < entries_for a.positions → instalment_fault a out count ≡ Found ListTooShort
+  pub fault_short : length out < entries_for a.positions → instalment_fault a out count ≡ Err ListTooShort
   unfolding instalment_fault refuse
   fault_short h = rw (lt-ltb (length out) (entries_for a.positions) h)
 
-  pub fault_18 : entries_for a.positions ≤ length out → not_first_pairs a out count ≡ true → instalment_fault a out count ≡ Found NotFirstPairs
+  pub fault_18 : entries_for a.positions ≤ length out → not_first_pairs a out count ≡ true → instalment_fault a out count ≡ Err NotFirstPairs
   unfolding instalment_fault refuse
   fault_18 h e = rw (le-ltb (length out) (entries_for a.positions) h, e)
 
-  pub fault_none : entries_for a.positions ≤ length out → not_first_pairs a out count ≡ false → instalment_fault a out count ≡ Clean
+  pub fault_none : entries_for a.positions ≤ length out → not_first_pairs a out count ≡ false → instalment_fault a out count ≡ clean
   unfolding instalment_fault refuse
   fault_none h e = rw (le-ltb (length out) (entries_for a.positions) h, e)

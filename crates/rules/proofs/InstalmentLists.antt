@@ -15,23 +15,22 @@ use Rattle.rules.proofs.LineLaws.{length-pair_lines}
 use Rattle.rules.specs.File.{Account}
 use Rattle.rules.specs.Instalments.{all_pairs, amount_so_far, first_pairs, list_for, list_paired, next_pairs, pair_answer, pairs_told}
 use Rattle.rules.specs.Lines.{entries_for, pair_lines, total}
-use Rattle.rules.specs.Refusals.{accepted, meaning}
-use Rattle.rules.specs.declared.AmountAnswer.TheVariants.{Amount}
+use Rattle.rules.specs.Refusals.{accepted, meaning, refused_at}
 use Rattle.rules.specs.declared.Line.{Line}
-use Rattle.rules.specs.declared.PairAnswer.{PairAnswer}
-use Rattle.rules.specs.declared.PairAnswer.TheVariants.{NotPaired, Paired}
 use Rattle.rules.specs.declared.Refusal.{Refusal}
+use Rattle.std.specs.Prelude.{Result, Ok, Err}
+use Rattle.rules.specs.declared.Refused.{Refused}
 
 module _ (b : List ℕ) (out : List Line) (count : ℕ) where
   -- "Every lent list keeps its content": after a refusal the list is what it was, whatever it held.
-  pub refusal_leaves : (allowance : ℕ) (w : Refusal) (row : ℕ) → pair_answer b out count allowance ≡ NotPaired w row
+  pub refusal_leaves : (allowance : ℕ) (w : Refusal) (row : ℕ) → pair_answer b out count allowance ≡ refused_at w row
       → list_paired b out count allowance ≡ out
   unfolding list_paired
   refusal_leaves allowance w row q = rw q
 
 -- The list after a call that is not refused.
 module _ (b : List ℕ) (a : Account) (e : meaning b ≡ accepted a) (out : List Line) (count allowance made : ℕ)
-    (q : pair_answer b out count allowance ≡ Paired made) where
+    (q : pair_answer b out count allowance ≡ Ok made) where
   long : entries_for a.positions ≤ length out
   long = (pair_only b a e out count allowance made q).0
 
@@ -97,9 +96,9 @@ module _ (b : List ℕ) (out : List Line) (count allowance : ℕ) where
   pub entries_before : take count (list_paired b out count allowance) ≡ take count out
   entries_before = go (pair_answer b out count allowance) refl
     where
-      go : (x : PairAnswer) → pair_answer b out count allowance ≡ x → take count (list_paired b out count allowance) ≡ take count out
-      go (NotPaired w row) q = ap (take count) (refusal_leaves b out count allowance w row q)
-      go (Paired made) q =
+      go : (x : Result ℕ Refused) → pair_answer b out count allowance ≡ x → take count (list_paired b out count allowance) ≡ take count out
+      go (Err refusal) q = ap (take count) (refusal_leaves b out count allowance refusal.why refusal.row q)
+      go (Ok made) q =
           let k = pair_accepted b out count allowance made q in
           ap (take count) (list_parts b k.0 k.1 out count allowance made q)
           ∙ take_at (take count out) _ count (before b k.0 k.1 out count allowance made q)
@@ -108,10 +107,10 @@ module _ (b : List ℕ) (out : List Line) (count allowance : ℕ) where
       ≡ drop (count + pairs_told (pair_answer b out count allowance)) out
   entries_after = go (pair_answer b out count allowance) refl
     where
-      go : (x : PairAnswer) → pair_answer b out count allowance ≡ x
+      go : (x : Result ℕ Refused) → pair_answer b out count allowance ≡ x
           → drop (count + pairs_told x) (list_paired b out count allowance) ≡ drop (count + pairs_told x) out
-      go (NotPaired w row) q = ap (drop (count + 0)) (refusal_leaves b out count allowance w row q)
-      go (Paired made) q =
+      go (Err refusal) q = ap (drop (count + 0)) (refusal_leaves b out count allowance refusal.why refusal.row q)
+      go (Ok made) q =
           let k = pair_accepted b out count allowance made q in
           let most = made_most b k.0 k.1 out count allowance made q in
           ap (drop (count + made)) (list_is b k.0 k.1 out count allowance made q)
@@ -121,9 +120,9 @@ module _ (b : List ℕ) (out : List Line) (count allowance : ℕ) where
   pub list_length : length (list_paired b out count allowance) ≡ length out
   list_length = go (pair_answer b out count allowance) refl
     where
-      go : (x : PairAnswer) → pair_answer b out count allowance ≡ x → length (list_paired b out count allowance) ≡ length out
-      go (NotPaired w row) q = ap length (refusal_leaves b out count allowance w row q)
-      go (Paired made) q =
+      go : (x : Result ℕ Refused) → pair_answer b out count allowance ≡ x → length (list_paired b out count allowance) ≡ length out
+      go (Err refusal) q = ap length (refusal_leaves b out count allowance refusal.why refusal.row q)
+      go (Ok made) q =
           let k = pair_accepted b out count allowance made q in
           let a = k.0 in
           omega (
@@ -138,7 +137,7 @@ module _ (b : List ℕ) (out : List Line) (count allowance : ℕ) where
           )
 
 -- "An allowance of zero makes none", and the list stays as it is.
-pub none_allowed : (b : List ℕ) (out : List Line) (count made : ℕ) → pair_answer b out count 0 ≡ Paired made → made ≡ 0
+pub none_allowed : (b : List ℕ) (out : List Line) (count made : ℕ) → pair_answer b out count 0 ≡ Ok made → made ≡ 0
 none_allowed b out count made q =
     let k = pair_accepted b out count 0 made q in
     omega (arith, (pair_only b k.0 k.1 out count 0 made q).2)
@@ -147,9 +146,9 @@ pub none_written : (b : List ℕ) (out : List Line) (count : ℕ) → list_paire
 unfolding pair_lines
 none_written b out count = go (pair_answer b out count 0) refl
   where
-    go : (x : PairAnswer) → pair_answer b out count 0 ≡ x → list_paired b out count 0 ≡ out
-    go (NotPaired w row) q = refusal_leaves b out count 0 w row q
-    go (Paired made) q =
+    go : (x : Result ℕ Refused) → pair_answer b out count 0 ≡ x → list_paired b out count 0 ≡ out
+    go (Err refusal) q = refusal_leaves b out count 0 refusal.why refusal.row q
+    go (Ok made) q =
         let k = pair_accepted b out count 0 made q in
         list_parts b k.0 k.1 out count 0 made q
         ∙ ap (λ (n : ℕ). take count out ++ (next_pairs k.0 count n ++ drop (count + n) out)) (none_allowed b out count made q)
@@ -158,10 +157,10 @@ none_written b out count = go (pair_answer b out count 0) refl
 
 -- After the last pairs the amount is the margin's total.
 pub done_total : (b : List ℕ) (a : Account) → meaning b ≡ accepted a → (out : List Line) (count allowance made : ℕ)
-    → pair_answer b out count allowance ≡ Paired made → made < allowance
-    → amount_so_far b (list_paired b out count allowance) (count + made) ≡ Amount (total a)
+    → pair_answer b out count allowance ≡ Ok made → made < allowance
+    → amount_so_far b (list_paired b out count allowance) (count + made) ≡ Ok (total a)
 done_total b a e out count allowance made q h =
     so_far_goes b a e (list_paired b out count allowance) (count + made)
     (omega (arith, long b a e out count allowance made q, list_length b out count allowance))
     (next_stand b a e out count allowance made q)
-    ∙ ap Amount (total_all a (count + made) (omega (arith, done b a e out count allowance made q h)))
+    ∙ ap Ok (total_all a (count + made) (omega (arith, done b a e out count allowance made q h)))

@@ -23,10 +23,9 @@ use Rattle.rules.specs.Lines.{entries_for, left_with_blocked, line_amount, pair_
 use Rattle.rules.specs.Pairs.{Made, available, book_of, pairs_after}
 use Rattle.rules.specs.Promises.{left_quantity, line_brings_in, pair_quantity}
 use Rattle.rules.specs.Refusals.{accepted, meaning}
-use Rattle.rules.specs.declared.AmountAnswer.TheVariants.{Amount}
 use Rattle.rules.specs.declared.Line.{Line}
-use Rattle.rules.specs.declared.PairAnswer.{PairAnswer}
-use Rattle.rules.specs.declared.PairAnswer.TheVariants.{Paired}
+use Rattle.std.specs.Prelude.{Result, Ok}
+use Rattle.rules.specs.declared.Refused.{Refused}
 
 -- As many pairs have the same lines.
 first_same : (a : Account) (m n : ℕ) → min m (length (all_pairs a)) ≡ min n (length (all_pairs a)) → first_pairs a m ≡ first_pairs a n
@@ -67,13 +66,13 @@ module _ (b : List ℕ) (a : Account) (e : meaning b ≡ accepted a) (out : List
       }
 
   next_is : (n : ℕ) (s : PairedList) → Reached n s → (allowance : ℕ)
-      → pair_answer b s.list s.count allowance ≡ Paired (made_of a s.count allowance)
+      → pair_answer b s.list s.count allowance ≡ Ok (made_of a s.count allowance)
   next_is n s r allowance = pair_goes b a e s.list s.count (room_is n s r) (stand_is n s r) allowance
 
   -- One call more.
   reach_more : (n allowance : ℕ) (s : PairedList) → Reached n s → Reached (n + allowance) (after_call b allowance s)
   reach_more n allowance s r =
-      subst (λ (x : PairAnswer). Reached (n + allowance) (record { list = list_paired b s.list s.count allowance; count = s.count + pairs_told x })) (sym q)
+      subst (λ (x : Result ℕ Refused). Reached (n + allowance) (record { list = list_paired b s.list s.count allowance; count = s.count + pairs_told x })) (sym q)
       (record {
         count_is = omega (arith, r.count_is);
         list_is =
@@ -84,7 +83,7 @@ module _ (b : List ℕ) (a : Account) (e : meaning b ≡ accepted a) (out : List
       made : ℕ
       made = made_of a s.count allowance
 
-      q : pair_answer b s.list s.count allowance ≡ Paired made
+      q : pair_answer b s.list s.count allowance ≡ Ok made
       q = next_is n s r allowance
 
       rest : drop (s.count + made) s.list ≡ drop (s.count + made) out
@@ -114,7 +113,7 @@ module _ (b : List ℕ) (a : Account) (e : meaning b ≡ accepted a) (out : List
         next_is = next_is n s r;
         amount_is =
             so_far_goes b a e s.list s.count (room_is n s r) (stand_is n s r)
-            ∙ ap Amount (total_same a s.count n (omega (arith, first_count a s.count, first_count a n, r.count_is)));
+            ∙ ap Ok (total_same a s.count n (omega (arith, first_count a s.count, first_count a n, r.count_is)));
       }
 
 -- "For every list of allowances, begun with no pair lines, the pairs after it are the first ones of the full pairing, as many

@@ -13,12 +13,11 @@ use Rattle.rules.specs.Instalments.{after_calls, amount_so_far, begins_with, beg
 use Rattle.rules.specs.Lines.{left_lines, pair_lines, premiums, sum_over, sum_to}
 use Rattle.rules.specs.OnePosition.{unit_margin}
 use Rattle.rules.specs.Pairs.{along, gap_of, left_after, made_after, may_of, through}
-use Rattle.rules.specs.Refusals.{file_read, matched_fault, position_row_fault, position_rows, refuse, rows, series_row_fault, series_rows, trailer_fault}
+use Rattle.rules.specs.Refusals.{file_read, matched_fault, position_row_fault, position_rows, refuse, refused_at, rows, series_row_fault, series_rows, trailer_fault}
 use Rattle.rules.specs.Spreads.{unit_spread}
-use Rattle.rules.specs.declared.AmountAnswer.TheVariants.{Amount, NoAmount}
 use Rattle.rules.specs.declared.Line.{Line}
-use Rattle.rules.specs.declared.PairAnswer.TheVariants.{NotPaired, Paired}
 use Rattle.rules.specs.declared.Refusal.TheVariants.{FileSize, ListTooShort, NotFirstPairs, PositionRange}
+use Rattle.std.specs.Prelude.{Ok}
 
 abbrev pub line_of : ℕ → ℕ → ℕ → ℕ → ℕ → Line
 line_of kind second third fourth fifth =
@@ -62,30 +61,30 @@ huge = 18_446_744_073_709_551_615
 -- Entries from count on are not looked at.
 abbrev Amounts : Type 0
 Amounts =
-    (amount_so_far example no_pairs 0 ≡ Amount 25_300)
-    × (amount_so_far example one_pair 1 ≡ Amount 17_800)
-    × (amount_so_far example two_pairs 2 ≡ Amount 10_800)
-    × (amount_so_far example two_pairs 1 ≡ Amount 17_800)
-    × (amount_so_far example two_pairs 0 ≡ Amount 25_300)
+    (amount_so_far example no_pairs 0 ≡ Ok 25_300)
+    × (amount_so_far example one_pair 1 ≡ Ok 17_800)
+    × (amount_so_far example two_pairs 2 ≡ Ok 10_800)
+    × (amount_so_far example two_pairs 1 ≡ Ok 17_800)
+    × (amount_so_far example two_pairs 0 ≡ Ok 25_300)
     -- Each line is rounded up by itself, and premiums are exact: 4 centavos and 7; 1, 2 and 7.
-    × (amount_so_far (paired 7) no_pairs 0 ≡ Amount 107)
-    × (amount_so_far (paired 7) (list_of (line_of 1 0 1 1 100) (mark 8)) 1 ≡ Amount 207)
+    × (amount_so_far (paired 7) no_pairs 0 ≡ Ok 107)
+    × (amount_so_far (paired 7) (list_of (line_of 1 0 1 1 100) (mark 8)) 1 ≡ Ok 207)
 
 -- How many pairs are made, by the count and the allowance: there are two.
 abbrev PairsMade : Type 0
 PairsMade =
-    (pair_answer example no_pairs 0 0 ≡ Paired 0)
-    × (pair_answer example no_pairs 0 1 ≡ Paired 1)
-    × (pair_answer example no_pairs 0 2 ≡ Paired 2)
-    × (pair_answer example no_pairs 0 3 ≡ Paired 2)
-    × (pair_answer example no_pairs 0 huge ≡ Paired 2)
-    × (pair_answer example one_pair 1 0 ≡ Paired 0)
-    × (pair_answer example one_pair 1 1 ≡ Paired 1)
-    × (pair_answer example one_pair 1 2 ≡ Paired 1)
-    × (pair_answer example one_pair 1 huge ≡ Paired 1)
-    × (pair_answer example two_pairs 2 0 ≡ Paired 0)
-    × (pair_answer example two_pairs 2 1 ≡ Paired 0)
-    × (pair_answer example two_pairs 2 huge ≡ Paired 0)
+    (pair_answer example no_pairs 0 0 ≡ Ok 0)
+    × (pair_answer example no_pairs 0 1 ≡ Ok 1)
+    × (pair_answer example no_pairs 0 2 ≡ Ok 2)
+    × (pair_answer example no_pairs 0 3 ≡ Ok 2)
+    × (pair_answer example no_pairs 0 huge ≡ Ok 2)
+    × (pair_answer example one_pair 1 0 ≡ Ok 0)
+    × (pair_answer example one_pair 1 1 ≡ Ok 1)
+    × (pair_answer example one_pair 1 2 ≡ Ok 1)
+    × (pair_answer example one_pair 1 huge ≡ Ok 1)
+    × (pair_answer example two_pairs 2 0 ≡ Ok 0)
+    × (pair_answer example two_pairs 2 1 ≡ Ok 0)
+    × (pair_answer example two_pairs 2 huge ≡ Ok 0)
 
 -- The list after a call; begun anew, the first line is written again and the entry after it stays; refused, all stay.
 abbrev ListsAfter : Type 0
@@ -106,7 +105,7 @@ ListsAfter =
 -- 18: each of the five numbers of the first and of the second line.
 abbrev refused18 : List Line → ℕ → Type 0
 refused18 out count =
-    (pair_answer example out count 1 ≡ NotPaired NotFirstPairs 0) × (amount_so_far example out count ≡ NoAmount NotFirstPairs 0)
+    (pair_answer example out count 1 ≡ refused_at NotFirstPairs 0) × (amount_so_far example out count ≡ refused_at NotFirstPairs 0)
 
 abbrev NumbersWrong : Type 0
 NumbersWrong =
@@ -135,26 +134,26 @@ CountsWrong =
 -- enough.
 abbrev Order : Type 0
 Order =
-    (pair_answer (7 ∷ []) [] 1 1 ≡ NotPaired FileSize 0)
-    × (amount_so_far (7 ∷ []) [] 1 ≡ NoAmount FileSize 0)
-    × (pair_answer (two_rows (row_bytes 0 1 0 4 10 3100 0 0 0 1)) [] 1 1 ≡ NotPaired PositionRange 1)
-    × (amount_so_far (two_rows (row_bytes 0 1 0 4 10 3100 0 0 0 1)) [] 1 ≡ NoAmount PositionRange 1)
-    × (pair_answer example (short_of (mark 7) (mark 8)) 1 1 ≡ NotPaired ListTooShort 0)
-    × (amount_so_far example (short_of (mark 7) (mark 8)) huge ≡ NoAmount ListTooShort 0)
-    × (pair_answer example (short_of first_pair second_pair) 2 1 ≡ NotPaired ListTooShort 0)
+    (pair_answer (7 ∷ []) [] 1 1 ≡ refused_at FileSize 0)
+    × (amount_so_far (7 ∷ []) [] 1 ≡ refused_at FileSize 0)
+    × (pair_answer (two_rows (row_bytes 0 1 0 4 10 3100 0 0 0 1)) [] 1 1 ≡ refused_at PositionRange 1)
+    × (amount_so_far (two_rows (row_bytes 0 1 0 4 10 3100 0 0 0 1)) [] 1 ≡ refused_at PositionRange 1)
+    × (pair_answer example (short_of (mark 7) (mark 8)) 1 1 ≡ refused_at ListTooShort 0)
+    × (amount_so_far example (short_of (mark 7) (mark 8)) huge ≡ refused_at ListTooShort 0)
+    × (pair_answer example (short_of first_pair second_pair) 2 1 ≡ refused_at ListTooShort 0)
     × (list_paired example (short_of (mark 7) (mark 8)) 0 1 ≡ short_of (mark 7) (mark 8))
-    × (pair_answer example (enough_of (mark 7) (mark 8)) 0 1 ≡ Paired 1)
+    × (pair_answer example (enough_of (mark 7) (mark 8)) 0 1 ≡ Ok 1)
     × (list_paired example (enough_of (mark 7) (mark 8)) 0 3 ≡ enough_of first_pair second_pair)
 
 -- Without positions there are no pairs.
 abbrev NoPairs : Type 0
 NoPairs =
-    (pair_answer no_rows [] 0 huge ≡ Paired 0)
+    (pair_answer no_rows [] 0 huge ≡ Ok 0)
     × (list_paired no_rows [] 0 huge ≡ [])
-    × (amount_so_far no_rows [] 0 ≡ Amount 0)
+    × (amount_so_far no_rows [] 0 ≡ Ok 0)
     × (list_paired no_rows (mark 7 ∷ []) 0 huge ≡ mark 7 ∷ [])
-    × (pair_answer no_rows [] 1 0 ≡ NotPaired NotFirstPairs 0)
-    × (amount_so_far no_rows (mark 7 ∷ []) huge ≡ NoAmount NotFirstPairs 0)
+    × (pair_answer no_rows [] 1 0 ≡ refused_at NotFirstPairs 0)
+    × (amount_so_far no_rows (mark 7 ∷ []) huge ≡ refused_at NotFirstPairs 0)
 
 pub instalment_values : Amounts × PairsMade × ListsAfter × NumbersWrong × CountsWrong × Order × NoPairs
 unfolding pair_answer list_paired amount_so_far after_calls instalment_fault begins_with left_lines pair_lines left_after made_after through along may_of gap_of unit_spread unit_margin premiums sum_to sum_over file_read layout series_row position_row series_rows position_rows rows trailer_fault series_row_fault position_row_fault matched_fault refuse

@@ -9,6 +9,7 @@ pub mod RuleValues
 -- Laws of the reading.
 pub mod Tests
 pub mod Chain
+pub mod SameAnswers
 pub mod Scan
 pub mod SeriesLimits
 pub mod PositionLimits

@@ -17,7 +17,7 @@ use Rattle.rules.specs.declared.OptionType.{OptionType}
 use Rattle.rules.specs.declared.OptionType.TheVariants.{Call, Put}
 use Rattle.rules.specs.declared.Position.{Position}
 use Rattle.rules.specs.declared.Side.TheVariants.{Held, Written}
-use Rattle.rules.specs.declared.Spread.TheVariants.{Barred}
+use Rattle.std.specs.Prelude.{None}
 
 -- A held and a written row without barriers and with strike 3100, with these limiters: they do not pair, and on the path of one
 -- price the written row pays more than the formula and the held row give together.
@@ -25,7 +25,7 @@ abbrev Uncovered : OptionType → Limiter → Limiter → ℕ → Type 0
 Uncovered option pbh pbw price =
     let h : Position = row Held 3100 pbh NoBarrier 0 in
     let w : Position = row Written 3100 pbw NoBarrier 0 in
-    (unit_spread (series option) h w ≡ Barred)
+    (unit_spread (series option) h w ≡ None)
     × IsPath (series option) (price ∷ [])
     × (strike_loss option (normal h) (normal w) + payment (series option) h (price ∷ []) < payment (series option) w (price ∷ []))
 

@@ -15,7 +15,7 @@ use Rattle.rules.proofs.InstalmentTables.{mark}
 use Rattle.rules.proofs.MarginTables.{knocked_in_row}
 use Rattle.rules.specs.File.{Account, account_of, layout, position_row, series_of_row, series_row, span}
 use Rattle.rules.specs.Instalments.{CoverSoFar, amount_so_far, begins_with, instalment_fault}
-use Rattle.rules.specs.Lines.{left_lines, lines, lines_given, margin_answer, pair_lines, premiums, sum_over, sum_to, total}
+use Rattle.rules.specs.Lines.{comes_to, left_lines, lines, lines_given, margin_answer, pair_lines, premiums, sum_over, sum_to, total}
 use Rattle.rules.specs.LongExpiries.{NoExceptedPut, NotCoveredFile, is_excepted_put}
 use Rattle.rules.specs.OnePosition.{unit_margin}
 use Rattle.rules.specs.Pairs.{along, gap_of, left_after, made_after, may_of, through}
@@ -24,17 +24,16 @@ use Rattle.rules.specs.Promises.{Cover, LowFactors, OnePathEach}
 use Rattle.rules.specs.Quantities.{fine}
 use Rattle.rules.specs.Refusals.{accepted, file_read, matched_fault, meaning, position_row_fault, position_rows, refuse, rows, series_row_fault, series_rows, trailer_fault}
 use Rattle.rules.specs.Spreads.{unit_spread}
-use Rattle.rules.specs.declared.AmountAnswer.TheVariants.{Amount}
 use Rattle.rules.specs.declared.Barrier.{Barrier}
 use Rattle.rules.specs.declared.Barrier.TheVariants.{NoBarrier, UpIn, DownIn, UpOut, DownOut}
 use Rattle.rules.specs.declared.Limiter.TheVariants.{NoLimiter}
 use Rattle.rules.specs.declared.Line.{Line}
-use Rattle.rules.specs.declared.MarginAnswer.TheVariants.{Total}
 use Rattle.rules.specs.declared.OptionType.{OptionType}
 use Rattle.rules.specs.declared.OptionType.TheVariants.{Call, Put}
 use Rattle.rules.specs.declared.Series.{Series}
 use Rattle.rules.specs.declared.Side.{Side}
 use Rattle.rules.specs.declared.Side.TheVariants.{Held, Written}
+use Rattle.std.specs.Prelude.{Ok}
 
 -- A series by its type and fb.
 abbrev series_with : OptionType → ℕ → Series
@@ -107,7 +106,7 @@ twelve =
 
 -- What is answered: 200 ticks for the pair, 1589.249 for the written call and for the up-and-in one, 243.902 and 1743.902 for the
 -- puts; and before the pair is made, with all ten contracts of the written call left.
-pub two_years_answered : (margin_answer two_years 12 ≡ Total 6 88_600) × (amount_so_far two_years twelve 0 ≡ Amount 116_400)
+pub two_years_answered : (margin_answer two_years 12 ≡ comes_to 6 88_600) × (amount_so_far two_years twelve 0 ≡ Ok 116_400)
 unfolding margin_answer amount_so_far instalment_fault begins_with lines_given lines left_lines pair_lines left_after made_after through along may_of gap_of premiums total sum_to sum_over unit_margin unit_spread meaning file_read layout series_row position_row series_rows position_rows rows trailer_fault series_row_fault position_row_fault matched_fault refuse
 two_years_answered = (refl, refl)
 
@@ -132,7 +131,7 @@ pub excepted_values :
     (is_excepted_put (series_of_row excepted_account 0) (excepted_account.position_at 0) ≡ true)
     × (unit_margin (series_of_row excepted_account 0) (excepted_account.position_at 0) ≡ 0)
     × (payment (series_of_row excepted_account 0) (excepted_account.position_at 0) knocked_in_at1200 ≡ fine 50)
-    × (margin_answer excepted_file 2 ≡ Total 1 0)
+    × (margin_answer excepted_file 2 ≡ comes_to 1 0)
 unfolding margin_answer lines_given lines left_lines pair_lines left_after made_after through along may_of gap_of premiums total sum_to sum_over unit_margin unit_spread payment meaning file_read layout series_row position_row series_rows position_rows rows trailer_fault series_row_fault position_row_fault matched_fault refuse
 excepted_values = (refl, refl, refl, refl)
 

@@ -16,8 +16,7 @@ use Rattle.rules.specs.declared.Position.{Position}
 use Rattle.rules.specs.declared.Series.{Series}
 use Rattle.rules.specs.declared.Side.{Side}
 use Rattle.rules.specs.declared.Side.TheVariants.{Held, Written}
-use Rattle.rules.specs.declared.Spread.{Spread}
-use Rattle.rules.specs.declared.Spread.TheVariants.{Barred, Margin}
+use Rattle.std.specs.Prelude.{Option, Some, None}
 
 -- "one held and one written row of a series, both European or opened before the annex" and neither with flag 16, with "the
 -- written unit margin .. greater than the spread's".
@@ -28,7 +27,7 @@ pub record Pairable (s : Series) (w h : Position) : Type 0 where
   pub written_may : may_be_paired w ≡ true
   pub held_may : may_be_paired h ≡ true
   pub spread : ℕ
-  pub spread_is : unit_spread s h w ≡ Margin spread
+  pub spread_is : unit_spread s h w ≡ Some spread
   pub spread_less : spread < unit_margin s w
 
 side_written : (x : Side) → is_written x ≡ true → x ≡ Written
@@ -39,9 +38,9 @@ side_held : (x : Side) → is_held x ≡ true → x ≡ Held
 side_held Held e = refl
 side_held Written e = absurd (false≢true e)
 
-lowered : (unit : ℕ) (x : Spread) → lowers unit x ≡ true → (u : ℕ) × (x ≡ Margin u) × (u < unit)
-lowered unit Barred e = absurd (false≢true e)
-lowered unit (Margin u) e = (u, refl, ltb-true u unit e)
+lowered : (unit : ℕ) (x : Option ℕ) → lowers unit x ≡ true → (u : ℕ) × (x ≡ Some u) × (u < unit)
+lowered unit None e = absurd (false≢true e)
+lowered unit (Some u) e = (u, refl, ltb-true u unit e)
 
 five : (p q r s t : Bool) → (p && q && r && s && t) ≡ true
     → (p ≡ true) × (q ≡ true) × (r ≡ true) × (s ≡ true) × (t ≡ true)

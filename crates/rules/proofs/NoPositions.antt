@@ -11,13 +11,12 @@ use lib.ListN.{length}
 use Rattle.rules.proofs.Answers.{amount_no_row, lines_answered, margin_accepted, premium_accepted}
 use Rattle.rules.proofs.LineLaws.{line_count_lem, lines_are, total_is}
 use Rattle.rules.specs.File.{Account}
-use Rattle.rules.specs.Lines.{line_amount, lines, list_after, margin_answer, premium_answer, premiums, sum_over, sum_to, total}
+use Rattle.rules.specs.Lines.{comes_to, line_amount, lines, list_after, margin_answer, premium_answer, premiums, sum_over, sum_to, total}
 use Rattle.rules.specs.OnePosition.{amount_answer, signed_answer}
 use Rattle.rules.specs.Promises.{written_pay_out}
 use Rattle.rules.specs.Refusals.{accepted, meaning}
-use Rattle.rules.specs.declared.AmountAnswer.TheVariants.{Amount}
 use Rattle.rules.specs.declared.Line.{Line}
-use Rattle.rules.specs.declared.MarginAnswer.TheVariants.{Total}
+use Rattle.std.specs.Prelude.{Ok}
 
 no_entries : (l : List Line) → length l ≤ 0 → l ≡ []
 no_entries [] q = refl
@@ -51,17 +50,17 @@ module _ (a : Account) (empty : a.positions ≡ 0) where
 -- What the operations answer for its file, whatever the list and the row: no line and total 0, the list as it was, an empty
 -- one too; premium 0; and 13 for any row.
 module _ (b : List ℕ) (a : Account) (e : meaning b ≡ accepted a) (empty : a.positions ≡ 0) where
-  pub empty_margin : (n : ℕ) → margin_answer b n ≡ Total 0 0
+  pub empty_margin : (n : ℕ) → margin_answer b n ≡ comes_to 0 0
   empty_margin n =
-      margin_accepted b a e n (omega (arith, empty)) ∙ ap₂ Total (ap length (no_lines a empty)) (no_total a empty)
+      margin_accepted b a e n (omega (arith, empty)) ∙ ap₂ comes_to (ap length (no_lines a empty)) (no_total a empty)
 
   pub empty_list : (out : List Line) → list_after b out ≡ out
   empty_list out =
       let k = lines_answered b out 0 0 (empty_margin (length out)) in
       k.list_is ∙ ap (λ (l : List Line). l ++ out) (no_entries (lines k.account) (omega (arith, k.count_is)))
 
-  pub empty_premiums : premium_answer b ≡ Amount 0
-  empty_premiums = premium_accepted b a e ∙ ap Amount (no_premiums a empty)
+  pub empty_premiums : premium_answer b ≡ Ok 0
+  empty_premiums = premium_accepted b a e ∙ ap Ok (no_premiums a empty)
 
   pub empty_rows : (row : ℕ) → signed_answer (amount_answer b row) ≡ neg_ℤ (pos 13)
   empty_rows row = amount_no_row b a e row (omega (arith, empty))

@@ -27,17 +27,16 @@ use Rattle.rules.specs.declared.OptionType.{OptionType}
 use Rattle.rules.specs.declared.OptionType.TheVariants.{Call, Put}
 use Rattle.rules.specs.declared.Position.{Position}
 use Rattle.rules.specs.declared.Series.{Series}
-use Rattle.rules.specs.declared.Spread.{Spread}
-use Rattle.rules.specs.declared.Spread.TheVariants.{Barred, Margin}
 use Rattle.rules.specs.declared.Terms.{Terms}
+use Rattle.std.specs.Prelude.{Option, Some, None}
 
 -- The spread and the held payment y cover the written payment x. Where there is no pair nothing is asked.
-abbrev Covered : Spread → ℕ → ℕ → Type 0
-Covered Barred x y = Unit {0}
-Covered (Margin u) x y = x ≤ u + y
+abbrev Covered : Option ℕ → ℕ → ℕ → Type 0
+Covered None x y = Unit {0}
+Covered (Some u) x y = x ≤ u + y
 
 cond_covered :
-    (t : Bool) (m n : Spread) (x y : ℕ) → (t ≡ true → Covered m x y) → (t ≡ false → Covered n x y)
+    (t : Bool) (m n : Option ℕ) (x y : ℕ) → (t ≡ true → Covered m x y) → (t ≡ false → Covered n x y)
     → Covered (cond t m n) x y
 cond_covered t m n x y f g = cond_case (λ c. Covered c x y) t m n f g
 
@@ -164,7 +163,7 @@ module _ (s : Series) (h w : Terms) (a : ℕ) (l : List ℕ) (within : Every (In
 
   -- Two normalised rows with a spread: identical ones, or by the rule of their one kind of barrier.
   spread_covered :
-      (u : ℕ) → spread_between s h w ≡ Margin u
+      (u : ℕ) → spread_between s h w ≡ Some u
       → payment_by_barrier s.option w.barrier w (a ∷ l) ≤ u + payment_by_barrier s.option h.barrier h (a ∷ l)
   spread_covered u e =
       ⊎_elim (λ (z : same h w ≡ true). omega (arith, same_paid s.option h w (a ∷ l) z))
@@ -174,7 +173,7 @@ module _ (s : Series) (h w : Terms) (a : ℕ) (l : List ℕ) (within : Every (In
 
 -- The cover of one pair, of any two rows of any series that have no flag 16.
 pub pair_covers :
-    (s : Series) (h w : Position) (u : ℕ) → h.flags.knockedOut ≡ false → w.flags.knockedOut ≡ false → unit_spread s h w ≡ Margin u
+    (s : Series) (h w : Position) (u : ℕ) → h.flags.knockedOut ≡ false → w.flags.knockedOut ≡ false → unit_spread s h w ≡ Some u
     → (path : List ℕ) → IsPath s path → payment s w path ≤ u + payment s h path
 unfolding unit_spread
 pair_covers s h w u held written e [] path = absurd path

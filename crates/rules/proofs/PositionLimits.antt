@@ -9,8 +9,7 @@ use borrow.Author.Tests.{eq-eqb, eqb-true, eqb-false, le-ltb, leb-false, lt-leb,
 use lib.Dec.{eqb, leb, ltb}
 use Rattle.rules.specs.File.{flags_of}
 use Rattle.rules.specs.Limits.{PositionWithin}
-use Rattle.rules.specs.Refusals.{nonzero, outside, position_row_checks, position_row_fault, wrong_flags}
-use Rattle.rules.specs.declared.Fault.TheVariants.{Clean}
+use Rattle.rules.specs.Refusals.{clean, nonzero, outside, position_row_checks, position_row_fault, wrong_flags}
 use Rattle.rules.specs.declared.PositionRow.{PositionRow}
 use Rattle.rules.specs.declared.SeriesRow.{SeriesRow}
 use Rattle.rules.proofs.Chain.{all_clean, all_pass, five_fail, in_range, inside, is_zero, none_of_five, none_of_three, three_fail, zero_is}
@@ -36,7 +35,7 @@ either_of n a b e = go (eqb n a) refl e
     go false q h = inr (eqb-true n b h)
 
 module _ (s : ℕ) (k : SeriesRow) (r : PositionRow) where
-  pub position_within : position_row_fault s k r ≡ Clean → PositionWithin s k r
+  pub position_within : position_row_fault s k r ≡ clean → PositionWithin s k r
   unfolding position_row_fault
   position_within e =
       let limited : Bool = (flags_of r.flags).limited in
@@ -83,7 +82,7 @@ module _ (s : ℕ) (k : SeriesRow) (r : PositionRow) where
       }
 
   -- The way back asks that the series' type is 0 or 1, as every row's series has by then.
-  pub position_clean : k.option ≤ 1 → PositionWithin s k r → position_row_fault s k r ≡ Clean
+  pub position_clean : k.option ≤ 1 → PositionWithin s k r → position_row_fault s k r ≡ clean
   unfolding position_row_fault
   position_clean o h =
       let limited : Bool = (flags_of r.flags).limited in

@@ -22,14 +22,11 @@ use Rattle.rules.specs.OnePosition.{amount_of, unit_margin}
 use Rattle.rules.specs.Pairs.{available, book_of, choice, contracts_after, left_after, made_after, made_by, pairs_after, taken}
 use Rattle.rules.specs.Reais.{RaisedDemand}
 use Rattle.rules.specs.Spreads.{unit_spread}
-use Rattle.rules.specs.declared.Choice.{Choice}
-use Rattle.rules.specs.declared.Choice.TheVariants.{Pair, NoPair}
 use Rattle.rules.specs.declared.Position.{Position}
 use Rattle.rules.specs.declared.Series.{Series}
 use Rattle.rules.specs.declared.Side.{Side}
 use Rattle.rules.specs.declared.Side.TheVariants.{Held, Written}
-use Rattle.rules.specs.declared.Spread.{Spread}
-use Rattle.rules.specs.declared.Spread.TheVariants.{Margin}
+use Rattle.std.specs.Prelude.{Option, Some, None}
 
 -- k contracts at the spread's unit and d at the written one, which is not below it, rounded apart, against all of them
 -- at the written one, rounded together.
@@ -41,8 +38,8 @@ apart_together spread u m k (suc d) l =
     omega (arith, whole, mul-le-mul_right k (mul-le-mul_right m l))
 
 -- The same of a pair's two lines, of l contracts of the written row.
-pair_raises : (x : Side) (s : Series) (p : Position) (spread : Spread) (u l k : ℕ)
-    → x ≡ Written → spread ≡ Margin u → u < unit_margin s p → k ≤ l
+pair_raises : (x : Side) (s : Series) (p : Position) (spread : Option ℕ) (u l k : ℕ)
+    → x ≡ Written → spread ≡ Some u → u < unit_margin s p → k ≤ l
     → amount_of (spread_unit spread) s.m k + left_amount x s p (l - k) ≤ left_amount x s p l + 100 * min 1 (l - k)
 pair_raises x s p spread u l k ex es less fits =
     rw (ex, es)
@@ -57,7 +54,7 @@ module _ (a : Account) where
   -- One round.
   module _ (left : ℕ → ℕ) where
     -- A pair changes no left line's amount but that of its written row: its held row's is 0.
-    others_stay : (w h r : ℕ) → (a.position_at h).side ≡ Held → r ≢ w → left_amount_at a r (taken left (Pair w h) r) ≡ left_amount_at a r (left r)
+    others_stay : (w h r : ℕ) → (a.position_at h).side ≡ Held → r ≢ w → left_amount_at a r (taken left (Some (w, h)) r) ≡ left_amount_at a r (left r)
     others_stay w h r held other = rw (ne_eqb r w other) (go (eqb r h) refl)
       where
         none : (x : Side) (s : Series) (p : Position) (k l : ℕ) → x ≡ Held → left_amount x s p k ≡ left_amount x s p l
@@ -69,30 +66,30 @@ module _ (a : Account) where
             (ap (λ y. (a.position_at y).side) (eqb-true r h e) ∙ held)
         go false e = refl
 
-    pair_round : (w h : ℕ) → choice (book_of a) left ≡ Pair w h
-        → sum_over (spread_amount a) (made_by left (Pair w h)) + left_sum (taken left (Pair w h))
-        ≤ left_sum left + 100 * min 1 (taken left (Pair w h) w)
+    pair_round : (w h : ℕ) → choice (book_of a) left ≡ Some (w, h)
+        → sum_over (spread_amount a) (made_by left (Some (w, h))) + left_sum (taken left (Some (w, h)))
+        ≤ left_sum left + 100 * min 1 (taken left (Some (w, h)) w)
     unfolding sum_over
     pair_round w h e =
         let allowed = choice_allowed (book_of a) left e in
         let p = may_pairable a w h allowed.may_pair_lem in
-        let itself : taken left (Pair w h) w ≡ left w - min (left w) (left h) = rw (eq-eqb w w refl) refl in
+        let itself : taken left (Some (w, h)) w ≡ left w - min (left w) (left h) = rw (eq-eqb w w refl) refl in
         omega (
           arith,
           itself,
           ap (left_amount_at a w) itself,
-          sum_to_one (λ r. left_amount_at a r (taken left (Pair w h) r)) (λ r. left_amount_at a r (left r)) a.positions w allowed.written_below
+          sum_to_one (λ r. left_amount_at a r (taken left (Some (w, h)) r)) (λ r. left_amount_at a r (left r)) a.positions w allowed.written_below
               (λ r l other. others_stay w h r p.is_held_lem other),
           pair_raises (a.position_at w).side (series_of_row a w) (a.position_at w)
               (unit_spread (series_of_row a w) (a.position_at h) (a.position_at w)) p.spread (left w) (min (left w) (left h))
               p.is_written_lem p.spread_is p.spread_less (omega arith),
         )
 
-    round_raises : (c : Choice) → choice (book_of a) left ≡ c
+    round_raises : (c : Option (ℕ × ℕ)) → choice (book_of a) left ≡ c
         → sum_over (spread_amount a) (made_by left c) + left_sum (taken left c) ≤ left_sum left + 100 * length (made_by left c)
     unfolding sum_over
-    round_raises NoPair e = omega arith
-    round_raises (Pair w h) e = omega (arith, pair_round w h e)
+    round_raises None e = omega arith
+    round_raises (Some (w, h)) e = omega (arith, pair_round w h e)
 
   pub sums_raised : (n : ℕ)
       → sum_over (spread_amount a) (pairs_after a n) + left_sum (contracts_after a n)
@@ -110,12 +107,12 @@ module _ (a : Account) where
         length-append (pairs_after a n) (made_by left c),
       )
 
-  by_a_pair : BlockedFits a → (n w h : ℕ) → choice (book_of a) (contracts_after a n) ≡ Pair w h
+  by_a_pair : BlockedFits a → (n w h : ℕ) → choice (book_of a) (contracts_after a n) ≡ Some (w, h)
       → total_after a (n + 1) ≤ total_after a n + 100 * min 1 (contracts_after a (n + 1) w)
   by_a_pair fits n w h e =
       let left = contracts_after a n in
-      let more : contracts_after a (n + 1) ≡ taken left (Pair w h) = left_more (book_of a) n (available a) ∙ ap (taken left) e in
-      let made : pairs_after a (n + 1) ≡ pairs_after a n ++ made_by left (Pair w h) = made_more (book_of a) n (available a) ∙ ap (λ (c : Choice). pairs_after a n ++ made_by left c) e in
+      let more : contracts_after a (n + 1) ≡ taken left (Some (w, h)) = left_more (book_of a) n (available a) ∙ ap (taken left) e in
+      let made : pairs_after a (n + 1) ≡ pairs_after a n ++ made_by left (Some (w, h)) = made_more (book_of a) n (available a) ∙ ap (λ (c : Option (ℕ × ℕ)). pairs_after a n ++ made_by left c) e in
       omega (
         arith,
         amounts_after a fits n,
@@ -123,7 +120,7 @@ module _ (a : Account) where
         ap left_sum more,
         ap (λ (f : ℕ → ℕ). f w) more,
         ap (sum_over (spread_amount a)) made,
-        sum_over-append (spread_amount a) (pairs_after a n) (made_by left (Pair w h)),
+        sum_over-append (spread_amount a) (pairs_after a n) (made_by left (Some (w, h))),
         pair_round left w h e,
       )
 

@@ -6,11 +6,10 @@ use lib.IntN.{pos}
 use Rattle.rules.proofs.CheckOrder.{series_row_bytes, trailer_bytes}
 use Rattle.rules.proofs.FileTables.{row_bytes}
 use Rattle.rules.specs.File.{account_of, layout, span}
-use Rattle.rules.specs.Lines.{lines_given, margin_answer, premium_answer, total_after}
+use Rattle.rules.specs.Lines.{comes_to, lines_given, margin_answer, premium_answer, total_after}
 use Rattle.rules.specs.OnePosition.{amount_answer, rounded_up, signed_answer}
 use Rattle.rules.specs.Reais.{most_amount}
-use Rattle.rules.specs.declared.AmountAnswer.TheVariants.{Amount}
-use Rattle.rules.specs.declared.MarginAnswer.TheVariants.{Total}
+use Rattle.std.specs.Prelude.{Ok}
 
 -- 0; what gives one real, from a millionth of a centavo to 100 centavos; and a millionth of a centavo more.
 abbrev pub Roundings : Type 0
@@ -36,9 +35,9 @@ paired premium = written_row ++ row_bytes 0 0 0 4 1 11 0 0 0 premium ++ trailer_
 -- the pair and 2 for the contract left are 100 each.
 abbrev pub PairRaises : Type 0
 PairRaises =
-    (margin_answer alone 2 ≡ Total 1 100)
+    (margin_answer alone 2 ≡ comes_to 1 100)
     × (total_after (account_of (paired 0) (layout (paired 0))) 0 ≡ 100)
-    × (margin_answer (paired 0) 4 ≡ Total 2 200)
+    × (margin_answer (paired 0) 4 ≡ comes_to 2 200)
     × (lines_given (paired 0) 4
     ≡ record { kind = 1; secondNumber = 0; thirdNumber = 1; fourthNumber = 1; fifthNumber = 100 }
     ∷ record { kind = 2; secondNumber = 0; thirdNumber = 1; fourthNumber = 100; fifthNumber = 0 }
@@ -49,12 +48,12 @@ abbrev pub ExactPremiums : Type 0
 ExactPremiums =
     (signed_answer (amount_answer (paired 7) 0) ≡ pos 100)
     × (signed_answer (amount_answer (paired 7) 1) ≡ pos 7)
-    × (premium_answer (paired 7) ≡ Amount 7)
-    × (margin_answer (paired 7) 4 ≡ Total 2 207)
+    × (premium_answer (paired 7) ≡ Ok 7)
+    × (margin_answer (paired 7) 4 ≡ comes_to 2 207)
 
 -- PV 10,000,000, fa 10,000,000, M 1,000; written PE 1, Q 100,000.
 abbrev largest : List ℕ
 largest = series_row_bytes 10_000_000 10_000_000 0 0 1_000 0 0 ++ row_bytes 0 1 0 4 100_000 1 0 0 0 0 ++ trailer_bytes 1 1 (span 1 1) 0
 
 abbrev pub Largest : Type 0
-Largest = (signed_answer (amount_answer largest 0) ≡ pos most_amount) × (margin_answer largest 2 ≡ Total 1 most_amount)
+Largest = (signed_answer (amount_answer largest 0) ≡ pos most_amount) × (margin_answer largest 2 ≡ comes_to 1 most_amount)

@@ -16,8 +16,7 @@ use Rattle.rules.proofs.Search.{choice_allowed, choice_same}
 use Rattle.rules.proofs.Sums.{sum_over-append}
 use Rattle.rules.specs.Lines.{sum_over}
 use Rattle.rules.specs.Pairs.{Book, Made, choice, left_after, made_after, made_by, taken}
-use Rattle.rules.specs.declared.Choice.{Choice}
-use Rattle.rules.specs.declared.Choice.TheVariants.{Pair, NoPair}
+use Rattle.std.specs.Prelude.{Option, Some, None}
 
 module _ (k : Book) where
   -- One more round.
@@ -44,65 +43,65 @@ module _ (k : Book) where
       rw (add-suc n m, made_add n m left, left_add n m left, append_assoc)
 
   -- A round that finds nothing changes nothing, ever after.
-  pub left_still : (n : ℕ) (left : ℕ → ℕ) → choice k left ≡ NoPair → left_after k n left ≡ left
+  pub left_still : (n : ℕ) (left : ℕ → ℕ) → choice k left ≡ None → left_after k n left ≡ left
   unfolding left_after
   left_still zero left e = refl
   left_still (suc n) left e = rw (left_still n left e, e)
 
-  pub made_still : (n : ℕ) (left : ℕ → ℕ) → choice k left ≡ NoPair → made_after k n left ≡ []
+  pub made_still : (n : ℕ) (left : ℕ → ℕ) → choice k left ≡ None → made_after k n left ≡ []
   unfolding made_after
   made_still zero left e = refl
   made_still (suc n) left e = rw (made_still n left e, left_still n left e, e)
 
-  pub left_ended : (n m : ℕ) (left : ℕ → ℕ) → choice k (left_after k n left) ≡ NoPair
+  pub left_ended : (n m : ℕ) (left : ℕ → ℕ) → choice k (left_after k n left) ≡ None
       → left_after k (n + m) left ≡ left_after k n left
   left_ended n m left e = left_add n m left ∙ left_still m (left_after k n left) e
 
-  pub made_ended : (n m : ℕ) (left : ℕ → ℕ) → choice k (left_after k n left) ≡ NoPair
+  pub made_ended : (n m : ℕ) (left : ℕ → ℕ) → choice k (left_after k n left) ≡ None
       → made_after k (n + m) left ≡ made_after k n left
   made_ended n m left e = rw (made_add n m left, made_still m (left_after k n left) e, append-nil)
 
   -- A round that finds a pair comes after rounds that each made one.
-  pub made_full : (n : ℕ) (left : ℕ → ℕ) {w h : ℕ} → choice k (left_after k n left) ≡ Pair w h
+  pub made_full : (n : ℕ) (left : ℕ → ℕ) {w h : ℕ} → choice k (left_after k n left) ≡ Some (w, h)
       → length (made_after k n left) ≡ n
   unfolding left_after made_after
   made_full zero left e = refl
   made_full (suc n) left e = go (choice k (left_after k n left)) refl (λ v g f. made_full n left f)
     where
-      go : (c : Choice) → choice k (left_after k n left) ≡ c
-          → ((v g : ℕ) → choice k (left_after k n left) ≡ Pair v g → length (made_after k n left) ≡ n)
+      go : (c : Option (ℕ × ℕ)) → choice k (left_after k n left) ≡ c
+          → ((v g : ℕ) → choice k (left_after k n left) ≡ Some (v, g) → length (made_after k n left) ≡ n)
           → length (made_after k n left ++ made_by (left_after k n left) c) ≡ suc n
-      go NoPair f before = let z : ◌≡◌ {A = ℕ} 0 1 = cc in absurd (omega arith)
-      go (Pair v g) f before = rw length-append (omega (arith, before v g f))
+      go None f before = let z : ◌≡◌ {A = ℕ} 0 1 = cc in absurd (omega arith)
+      go (Some (v, g)) f before = rw length-append (omega (arith, before v g f))
 
   pub made_count : (n : ℕ) (left : ℕ → ℕ) → length (made_after k n left) ≤ n
   unfolding made_after
   made_count zero left = omega arith
   made_count (suc n) left = rw length-append (omega (arith, made_count n left, at_most (choice k (left_after k n left))))
     where
-      at_most : (c : Choice) → length (made_by (left_after k n left) c) ≤ 1
-      at_most NoPair = omega arith
-      at_most (Pair w h) = omega arith
+      at_most : (c : Option (ℕ × ℕ)) → length (made_by (left_after k n left) c) ≤ 1
+      at_most None = omega arith
+      at_most (Some (w, h)) = omega arith
 
   -- The pairs of n rounds are the first n of the pairs of more rounds, or all of them.
   pub made_first : (n m : ℕ) (left : ℕ → ℕ) → made_after k n left ≡ take n (made_after k (n + m) left)
   made_first n m left = go (choice k (left_after k n left)) refl
     where
-      go : (c : Choice) → choice k (left_after k n left) ≡ c → made_after k n left ≡ take n (made_after k (n + m) left)
-      go NoPair e = rw (made_ended n m left e) (sym (take_all n (made_after k n left) (made_count n left)))
-      go (Pair w h) e = rw (made_add n m left) (sym (take_at _ _ n (made_full n left e)))
+      go : (c : Option (ℕ × ℕ)) → choice k (left_after k n left) ≡ c → made_after k n left ≡ take n (made_after k (n + m) left)
+      go None e = rw (made_ended n m left e) (sym (take_all n (made_after k n left) (made_count n left)))
+      go (Some (w, h)) e = rw (made_add n m left) (sym (take_at _ _ n (made_full n left e)))
 
 -- Contracts left that are the same in each row of the book stay so, and give the same pairs.
 module _ (k : Book) (left left' : ℕ → ℕ) (same : (r : ℕ) → r < k.rows → left r ≡ left' r) where
-  taken_same : (c : Choice) → choice k left ≡ c → (r : ℕ) → r < k.rows → taken left c r ≡ taken left' c r
-  taken_same NoPair e r l = same r l
-  taken_same (Pair w h) e r l =
+  taken_same : (c : Option (ℕ × ℕ)) → choice k left ≡ c → (r : ℕ) → r < k.rows → taken left c r ≡ taken left' c r
+  taken_same None e r l = same r l
+  taken_same (Some (w, h)) e r l =
       let a = choice_allowed k left e in
       rw (same r l, same w a.written_below, same h a.held_below)
 
-  made_by-same : (c : Choice) → choice k left ≡ c → made_by left c ≡ made_by left' c
-  made_by-same NoPair e = refl
-  made_by-same (Pair w h) e =
+  made_by-same : (c : Option (ℕ × ℕ)) → choice k left ≡ c → made_by left c ≡ made_by left' c
+  made_by-same None e = refl
+  made_by-same (Some (w, h)) e =
       let a = choice_allowed k left e in
       rw (same w a.written_below, same h a.held_below)
 
@@ -127,10 +126,10 @@ abbrev pub named : ℕ → Made → ℕ
 named r m = cond (eqb m.written r || eqb m.held r) m.quantity 0
 
 -- A row loses what the pair takes from it.
-taken_named : (left : ℕ → ℕ) (c : Choice) (r : ℕ) → sum_over (named r) (made_by left c) + taken left c r ≡ left r
+taken_named : (left : ℕ → ℕ) (c : Option (ℕ × ℕ)) (r : ℕ) → sum_over (named r) (made_by left c) + taken left c r ≡ left r
 unfolding sum_over
-taken_named left NoPair r = omega arith
-taken_named left (Pair w h) r = rw (eqb_sym w r, eqb_sym h r) (go (eqb r w) (eqb r h) refl refl)
+taken_named left None r = omega arith
+taken_named left (Some (w, h)) r = rw (eqb_sym w r, eqb_sym h r) (go (eqb r w) (eqb r h) refl refl)
   where
     go : (x y : Bool) → eqb r w ≡ x → eqb r h ≡ y
         → cond (x || y) (min (left w) (left h)) 0 + 0 + cond (x || y) (left r - min (left w) (left h)) (left r) ≡ left r

@@ -12,14 +12,13 @@ use Rattle.rules.proofs.Tests.{both, refuted}
 use Rattle.rules.proofs.PairOrder.{ahead_kept, ahead_neither, ahead_self, not_before, rank, rank_ahead, true_ahead}
 use Rattle.rules.specs.Limits.{most_positions}
 use Rattle.rules.specs.Pairs.{Book, ahead, ahead_of, allowed, along, choice, look, through}
-use Rattle.rules.specs.declared.Choice.{Choice}
-use Rattle.rules.specs.declared.Choice.TheVariants.{Pair, NoPair}
+use Rattle.std.specs.Prelude.{Option, Some, None}
 
 -- What a search that has looked at the pairs `seen` holds: one of them that is allowed and that no allowed one of them
 -- is ahead of; or none, where none of them is allowed.
-abbrev Found : Book → (ℕ → ℕ) → (ℕ → ℕ → Type 0) → Choice → Type 0
-Found k left seen NoPair = (v g : ℕ) → seen v g → allowed k left v g ≡ false
-Found k left seen (Pair w h) =
+abbrev Found : Book → (ℕ → ℕ) → (ℕ → ℕ → Type 0) → Option (ℕ × ℕ) → Type 0
+Found k left seen None = (v g : ℕ) → seen v g → allowed k left v g ≡ false
+Found k left seen (Some (w, h)) =
     seen w h
     × (allowed k left w h ≡ true)
     × ((v g : ℕ) → seen v g → allowed k left v g ≡ true → ahead k v g w h ≡ false)
@@ -30,47 +29,47 @@ And seen w h v g = seen v g ⊎ ((v ≡ w) × (g ≡ h))
 
 module _ (k : Book) (left : ℕ → ℕ) where
   found_as : {P Q : ℕ → ℕ → Type 0}
-      → ((v g : ℕ) → P v g → Q v g) → ((v g : ℕ) → Q v g → P v g) → (c : Choice) → Found k left P c → Found k left Q c
-  found_as there back NoPair f = λ v g q. f v g (back v g q)
-  found_as there back (Pair w h) f = (there w h f.0, f.1, λ v g q. f.2 v g (back v g q))
+      → ((v g : ℕ) → P v g → Q v g) → ((v g : ℕ) → Q v g → P v g) → (c : Option (ℕ × ℕ)) → Found k left P c → Found k left Q c
+  found_as there back None f = λ v g q. f v g (back v g q)
+  found_as there back (Some (w, h)) f = (there w h f.0, f.1, λ v g q. f.2 v g (back v g q))
 
   -- Pair (w, h) is allowed and ahead of what was found before it.
-  look_takes : (P : ℕ → ℕ → Type 0) (w h : ℕ) (c : Choice)
-      → allowed k left w h ≡ true → ahead_of k w h c ≡ true → Found k left P c → Found k left (And P w h) (Pair w h)
-  look_takes P w h NoPair a b f = (inr (refl, refl), a, go)
+  look_takes : (P : ℕ → ℕ → Type 0) (w h : ℕ) (c : Option (ℕ × ℕ))
+      → allowed k left w h ≡ true → ahead_of k w h c ≡ true → Found k left P c → Found k left (And P w h) (Some (w, h))
+  look_takes P w h None a b f = (inr (refl, refl), a, go)
     where
       go : (v g : ℕ) → And P w h v g → allowed k left v g ≡ true → ahead k v g w h ≡ false
       go v g (inl p) e = absurd (true≢false (sym e ∙ f v g p))
       go v g (inr p) e = rw (p.0, p.1) (ahead_self k w h)
-  look_takes P w h (Pair u d) a b f = (inr (refl, refl), a, go)
+  look_takes P w h (Some (u, d)) a b f = (inr (refl, refl), a, go)
     where
       go : (v g : ℕ) → And P w h v g → allowed k left v g ≡ true → ahead k v g w h ≡ false
       go v g (inl p) e = ahead_kept k v g w h u d (f.2 v g p e) b
       go v g (inr p) e = rw (p.0, p.1) (ahead_self k w h)
 
   -- It is not allowed, or not ahead of what was found before it.
-  look_keeps : (P : ℕ → ℕ → Type 0) (w h : ℕ) (c : Choice)
+  look_keeps : (P : ℕ → ℕ → Type 0) (w h : ℕ) (c : Option (ℕ × ℕ))
       → (allowed k left w h ≡ true → ahead_of k w h c ≡ false) → Found k left P c → Found k left (And P w h) c
-  look_keeps P w h NoPair n f = go
+  look_keeps P w h None n f = go
     where
       go : (v g : ℕ) → And P w h v g → allowed k left v g ≡ false
       go v g (inl p) = f v g p
       go v g (inr p) = rw (p.0, p.1) (refuted _ (λ e. true≢false (n e)))
-  look_keeps P w h (Pair u d) n f = (inl f.0, f.1, go)
+  look_keeps P w h (Some (u, d)) n f = (inl f.0, f.1, go)
     where
       go : (v g : ℕ) → And P w h v g → allowed k left v g ≡ true → ahead k v g u d ≡ false
       go v g (inl p) e = f.2 v g p e
       go v g (inr p) e = rw (p.0, p.1) (n (rw (p.0, p.1) at e))
 
-  look_found : (P : ℕ → ℕ → Type 0) (w h : ℕ) (c : Choice) → Found k left P c → Found k left (And P w h) (look k left w h c)
+  look_found : (P : ℕ → ℕ → Type 0) (w h : ℕ) (c : Option (ℕ × ℕ)) → Found k left P c → Found k left (And P w h) (look k left w h c)
   look_found P w h c f = go (allowed k left w h) (ahead_of k w h c) refl refl
     where
-      go : (x y : Bool) → allowed k left w h ≡ x → ahead_of k w h c ≡ y → Found k left (And P w h) (cond (x && y) (Pair w h) c)
+      go : (x y : Bool) → allowed k left w h ≡ x → ahead_of k w h c ≡ y → Found k left (And P w h) (cond (x && y) (Some (w, h)) c)
       go true true a b = look_takes P w h c a b f
       go true false a b = look_keeps P w h c (λ e. b) f
       go false y a b = look_keeps P w h c (λ e. absurd (true≢false (sym e ∙ a))) f
 
-  along_found : (P : ℕ → ℕ → Type 0) (w n : ℕ) (c : Choice) → Found k left P c
+  along_found : (P : ℕ → ℕ → Type 0) (w n : ℕ) (c : Option (ℕ × ℕ)) → Found k left P c
       → Found k left (λ v g. P v g ⊎ ((v ≡ w) × (g < n))) (along k left w n c)
   unfolding along
   along_found P w zero c f = found_as (λ v g p. inl p) back c f
@@ -139,19 +138,19 @@ pub is_allowed : (k : Book) (left : ℕ → ℕ) (w h : ℕ) → Allowed k left 
 is_allowed k left w h a = rw (a.may_pair_lem, lt-ltb 0 (left w) a.written_left, lt-ltb 0 (left h) a.held_left)
 
 module _ (k : Book) (left : ℕ → ℕ) where
-  found : {c : Choice} → choice k left ≡ c → Found k left (λ v g. (v < k.rows) × (g < k.rows)) c
+  found : {c : Option (ℕ × ℕ)} → choice k left ≡ c → Found k left (λ v g. (v < k.rows) × (g < k.rows)) c
   found e = subst (Found k left (λ v g. (v < k.rows) × (g < k.rows))) e (choice_found k left)
 
-  pub choice_allowed : {w h : ℕ} → choice k left ≡ Pair w h → Allowed k left w h
+  pub choice_allowed : {w h : ℕ} → choice k left ≡ Some (w, h) → Allowed k left w h
   choice_allowed {w} {h} e = let f = found e in allowed_is k left w h f.0.0 f.0.1 f.1
 
   -- No allowed pair is ahead of it.
-  pub choice_first : {w h : ℕ} → choice k left ≡ Pair w h
+  pub choice_first : {w h : ℕ} → choice k left ≡ Some (w, h)
       → (v g : ℕ) → v < k.rows → g < k.rows → allowed k left v g ≡ true → ahead k v g w h ≡ false
   choice_first e v g lv lg = (found e).2 v g (lv, lg)
 
   -- In document 01's words: the least strike difference, then the lowest written row, then the lowest held row.
-  pub choice_least : {w h : ℕ} → choice k left ≡ Pair w h
+  pub choice_least : {w h : ℕ} → choice k left ≡ Some (w, h)
       → (v g : ℕ) → v < k.rows → g < k.rows → allowed k left v g ≡ true
       → (k.gap w h ≤ k.gap v g) × (k.gap w h ≡ k.gap v g → (w ≤ v) × (w ≡ v → h ≤ g))
   choice_least {w} {h} e v g lv lg a =
@@ -159,25 +158,25 @@ module _ (k : Book) (left : ℕ → ℕ) where
       (λ b. true≢false (sym (true_ahead k v g w h b) ∙ choice_first e v g lv lg a))
 
   -- None is found exactly if none is allowed.
-  pub choice_none : choice k left ≡ NoPair → (v g : ℕ) → v < k.rows → g < k.rows → allowed k left v g ≡ false
+  pub choice_none : choice k left ≡ None → (v g : ℕ) → v < k.rows → g < k.rows → allowed k left v g ≡ false
   choice_none e v g lv lg = found e v g (lv, lg)
 
-  pub none_choice : ((v g : ℕ) → v < k.rows → g < k.rows → allowed k left v g ≡ false) → choice k left ≡ NoPair
+  pub none_choice : ((v g : ℕ) → v < k.rows → g < k.rows → allowed k left v g ≡ false) → choice k left ≡ None
   none_choice none = go (choice k left) refl
     where
-      go : (c : Choice) → choice k left ≡ c → c ≡ NoPair
-      go NoPair e = refl
-      go (Pair w h) e = let f = found e in absurd (true≢false (sym f.1 ∙ none w h f.0.0 f.0.1))
+      go : (c : Option (ℕ × ℕ)) → choice k left ≡ c → c ≡ None
+      go None e = refl
+      go (Some (w, h)) e = let f = found e in absurd (true≢false (sym f.1 ∙ none w h f.0.0 f.0.1))
 
   -- An allowed pair that no allowed pair is ahead of is the one that is found.
   pub choice_only : (w h : ℕ) → w < k.rows → h < k.rows → allowed k left w h ≡ true
       → ((v g : ℕ) → v < k.rows → g < k.rows → allowed k left v g ≡ true → ahead k v g w h ≡ false)
-      → choice k left ≡ Pair w h
+      → choice k left ≡ Some (w, h)
   choice_only w h lw lh a first = go (choice k left) refl
     where
-      go : (c : Choice) → choice k left ≡ c → c ≡ Pair w h
-      go NoPair e = absurd (true≢false (sym a ∙ found e w h (lw, lh)))
-      go (Pair v g) e =
+      go : (c : Option (ℕ × ℕ)) → choice k left ≡ c → c ≡ Some (w, h)
+      go None e = absurd (true≢false (sym a ∙ found e w h (lw, lh)))
+      go (Some (v, g)) e =
           let f = found e in
           let same = ahead_neither k v g w h (first v g f.0.0 f.0.1 f.1) (f.2 w h (lw, lh) a) in
           rw (same.0, same.1)
@@ -186,7 +185,7 @@ module _ (k : Book) (left : ℕ → ℕ) where
 pub choice_ranked : (k : Book) (left : ℕ → ℕ) → k.rows ≤ most_positions
     → (w h : ℕ) → w < k.rows → h < k.rows → allowed k left w h ≡ true
     → ((v g : ℕ) → v < k.rows → g < k.rows → allowed k left v g ≡ true → rank k w h ≤ rank k v g)
-    → choice k left ≡ Pair w h
+    → choice k left ≡ Some (w, h)
 choice_ranked k left few w h lw lh a lowest =
     choice_only k left w h lw lh a
     (λ v g lv lg b. rank_ahead k w h v g (omega arith) (omega arith) (omega arith) (omega arith) (lowest v g lv lg b))
@@ -199,9 +198,9 @@ choice_same k left left' same = sym (go (choice k left) refl)
     alike : (v g : ℕ) → v < k.rows → g < k.rows → allowed k left' v g ≡ allowed k left v g
     alike v g lv lg = rw (same v lv, same g lg)
 
-    go : (c : Choice) → choice k left ≡ c → choice k left' ≡ c
-    go NoPair e = none_choice k left' (λ v g lv lg. alike v g lv lg ∙ choice_none k left e v g lv lg)
-    go (Pair w h) e =
+    go : (c : Option (ℕ × ℕ)) → choice k left ≡ c → choice k left' ≡ c
+    go None e = none_choice k left' (λ v g lv lg. alike v g lv lg ∙ choice_none k left e v g lv lg)
+    go (Some (w, h)) e =
         let a = choice_allowed k left e in
         choice_only k left' w h a.written_below a.held_below
         (alike w h a.written_below a.held_below ∙ is_allowed k left w h a)

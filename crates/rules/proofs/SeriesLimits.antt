@@ -4,13 +4,12 @@ use mathlib.Core.Path.{◌≡◌}
 use borrow.Author.Tests.{le-ltb, ltb-false}
 use lib.Dec.{ltb}
 use Rattle.rules.specs.Limits.{SeriesWithin}
-use Rattle.rules.specs.Refusals.{nonzero, outside, series_row_checks, series_row_fault}
-use Rattle.rules.specs.declared.Fault.TheVariants.{Clean}
+use Rattle.rules.specs.Refusals.{clean, nonzero, outside, series_row_checks, series_row_fault}
 use Rattle.rules.specs.declared.SeriesRow.{SeriesRow}
 use Rattle.rules.proofs.Chain.{all_clean, all_pass, five_fail, in_range, inside, is_zero, none_of_five, zero_is}
 use Rattle.rules.proofs.Tests.{both_fail, neither}
 
-pub series_within : (r : SeriesRow) → series_row_fault r ≡ Clean → SeriesWithin r
+pub series_within : (r : SeriesRow) → series_row_fault r ≡ clean → SeriesWithin r
 unfolding series_row_fault
 series_within r e =
     let passes = all_pass (series_row_checks r) e in
@@ -29,7 +28,7 @@ series_within r e =
       spare_zero = is_zero r.spare type.1;
     }
 
-pub series_clean : (r : SeriesRow) → SeriesWithin r → series_row_fault r ≡ Clean
+pub series_clean : (r : SeriesRow) → SeriesWithin r → series_row_fault r ≡ clean
 unfolding series_row_fault
 series_clean r h =
     all_clean (series_row_checks r) (

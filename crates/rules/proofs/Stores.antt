@@ -77,14 +77,6 @@ sets_front vs b fits =
     let front : 0 + length vs ≡ length vs = omega arith in
     rw front at (sets-eq vs b 0 (omega arith))
 
--- Four stores of code, one byte after the other, are the store of the four.
-pub four_stores : (b : List ℕ) (i w x y z : ℕ) → set (set (set (set b i w) (i + 1) x) (i + 2) y) (i + 3) z ≡ sets b i (w ∷ x ∷ y ∷ z ∷ [])
-four_stores b i w x y z =
-    let e1 : i + 1 ≡ suc i = omega arith in
-    let e2 : i + 2 ≡ suc (suc i) = omega arith in
-    let e3 : i + 3 ≡ suc (suc (suc i)) = omega arith in
-    rw (e1, e2, e3)
-
 -- ---- a table of stores
 
 module _ (place : ℕ → ℕ) (vs : ℕ → List ℕ) where

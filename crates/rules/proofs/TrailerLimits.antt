@@ -11,14 +11,13 @@ use lib.Dec.{eqb, ltb}
 use lib.ListN.{length}
 use Rattle.rules.specs.File.{distance, layout, position_count, position_width, series_count, series_width, span, trailer_spare, trailer_width}
 use Rattle.rules.specs.Limits.{Placed, TrailerWithin, most_bytes, most_positions, most_series}
-use Rattle.rules.specs.Refusals.{nonzero, outside, trailer_checks, trailer_fault}
-use Rattle.rules.specs.declared.Fault.TheVariants.{Clean}
+use Rattle.rules.specs.Refusals.{clean, nonzero, outside, trailer_checks, trailer_fault}
 use Rattle.rules.specs.declared.Layout.{Layout}
 use Rattle.rules.proofs.Chain.{all_clean, all_pass, in_range, inside, is_zero, none_of_three, three_fail, zero_is}
 use Rattle.rules.proofs.Tests.{both_fail, neither}
 
 module _ (b : List ℕ) where
-  pub trailer_within : trailer_fault b ≡ Clean → TrailerWithin b
+  pub trailer_within : trailer_fault b ≡ clean → TrailerWithin b
   unfolding trailer_fault
   trailer_within e =
       let passes = all_pass (trailer_checks b) e in
@@ -37,7 +36,7 @@ module _ (b : List ℕ) where
         spare_zero = is_zero (trailer_spare b) counts.2;
       }
 
-  pub trailer_clean : TrailerWithin b → trailer_fault b ≡ Clean
+  pub trailer_clean : TrailerWithin b → trailer_fault b ≡ clean
   unfolding trailer_fault
   trailer_clean h =
       all_clean (trailer_checks b) (

@@ -15,8 +15,7 @@ use Rattle.rules.proofs.Search.{choice_allowed}
 use Rattle.rules.proofs.Sums.{each_append, each_map, sum_over-same, sum_over-scale, sum_to_add, sum_to_only, sum_to_same, sum_to_sum_over}
 use Rattle.rules.specs.Lines.{Each, sum_over, sum_to}
 use Rattle.rules.specs.Pairs.{Book, Made, choice, left_after, made_after, made_by}
-use Rattle.rules.specs.declared.Choice.{Choice}
-use Rattle.rules.specs.declared.Choice.TheVariants.{Pair, NoPair}
+use Rattle.std.specs.Prelude.{Option, Some, None}
 
 -- No row pairs with itself.
 abbrev pub Apart : Book → Type 0
@@ -29,9 +28,9 @@ pub record Sound (k : Book) (m : Made) : Type 0 where
   pub may_pair_lem : k.may m.written m.held ≡ true
   pub quantity_some : 1 ≤ m.quantity
 
-made_by-sound : (k : Book) (left : ℕ → ℕ) (c : Choice) → choice k left ≡ c → Each (Sound k) (made_by left c)
-made_by-sound k left NoPair e = tt
-made_by-sound k left (Pair w h) e =
+made_by-sound : (k : Book) (left : ℕ → ℕ) (c : Option (ℕ × ℕ)) → choice k left ≡ c → Each (Sound k) (made_by left c)
+made_by-sound k left None e = tt
+made_by-sound k left (Some (w, h)) e =
     let a = choice_allowed k left e in (
       record {
         written_below = a.written_below;

@@ -1,24 +1,19 @@
 -- Document 02 [5], What the day crossed: the file after a series' high, low and close.
-use Rattle.std.specs.Prelude.{ℕ, ◌+◌, ◌*◌, ◌-◌, ◌/◌, ◌%◌, ◌≤◌, ◌<◌, Bool, false, cond, ◌||◌, List, [], ◌∷◌, ◌≡◌, eqb, leb, ltb, length}
+use Rattle.std.specs.Prelude.{ℕ, ◌+◌, ◌*◌, ◌-◌, ◌/◌, ◌%◌, ◌≤◌, ◌<◌, Bool, false, cond, ◌||◌, List, [], ◌∷◌, ◌≡◌, eqb, leb, ltb, length, Result, Ok, Err}
 use Rattle.std.proofs.lemmas.List.Edits.{sets}
 use Rattle.rules.specs.File.{Account, barrier_of, position_row, series_width, u8_at}
-use Rattle.rules.specs.Refusals.{Check, accepted, file_read, first_fault, meaning, outside}
+use Rattle.rules.specs.Refusals.{Check, Fault, accepted, file_read, first_fault, meaning, outside, refused_at}
 use Rattle.rules.specs.Writing.{bytes4, stores}
 use Rattle.rules.specs.declared.Barrier.{Barrier}
 use Rattle.rules.specs.declared.Barrier.TheVariants.{NoBarrier, UpIn, DownIn, UpOut, DownOut}
 use Rattle.rules.specs.declared.Day.{Day}
-use Rattle.rules.specs.declared.DayAnswer.{DayAnswer}
-use Rattle.rules.specs.declared.DayAnswer.TheVariants.{Applied, NotApplied}
-use Rattle.rules.specs.declared.Fault.{Fault}
-use Rattle.rules.specs.declared.Fault.TheVariants.{Clean, Found}
-use Rattle.rules.specs.declared.FileRead.{FileRead}
-use Rattle.rules.specs.declared.FileRead.TheVariants.{Accepted, Refused}
 use Rattle.rules.specs.declared.Flags.{Flags}
 use Rattle.rules.specs.declared.Layout.{Layout}
 use Rattle.rules.specs.declared.Position.{Position}
 use Rattle.rules.specs.declared.PositionRow.{PositionRow}
 use Rattle.rules.specs.declared.Refusal.TheVariants.{SeriesAskedFor, DayPrices}
 use Rattle.rules.specs.declared.Series.{Series}
+use Rattle.rules.specs.declared.Refused.{Refused}
 
 -- "Flag 1 is set where high ≥ IU or low ≤ ID."
 abbrev pub crossed_in : Day → Barrier → Bool
@@ -92,27 +87,31 @@ day_checks s d = (leb s d.series, SeriesAskedFor) ∷ (wrong_day d, DayPrices) �
 unfoldable pub day_fault : ℕ → Day → Fault
 day_fault s d = first_fault (day_checks s d)
 
+-- What a day that is applied is answered.
+abbrev pub applied : Result (Unit {0}) Refused
+applied = Ok tt
+
 -- The answer and the bytes by what the day's checks find, c being the file with the day written. The row is 0. "the bytes
 -- then keep their content"
-abbrev pub answer_by : Fault → DayAnswer
-answer_by Clean = Applied
-answer_by (Found w) = NotApplied w 0
+abbrev pub answer_by : Fault → Result (Unit {0}) Refused
+answer_by (Ok u) = applied
+answer_by (Err w) = refused_at w 0
 
 abbrev pub bytes_by : Fault → List ℕ → List ℕ → List ℕ
-bytes_by Clean b c = c
-bytes_by (Found w) b c = b
+bytes_by (Ok u) b c = c
+bytes_by (Err w) b c = b
 
 -- "The reading's refusals first", then the day's.
-abbrev pub answer_read : Day → FileRead → DayAnswer
-answer_read d (Refused w i) = NotApplied w i
-answer_read d (Accepted l) = answer_by (day_fault l.series d)
+abbrev pub answer_read : Day → Result Layout Refused → Result (Unit {0}) Refused
+answer_read d (Err refusal) = Err refusal
+answer_read d (Ok l) = answer_by (day_fault l.series d)
 
-abbrev pub bytes_read : List ℕ → Day → FileRead → List ℕ
-bytes_read b d (Refused w i) = b
-bytes_read b d (Accepted l) = bytes_by (day_fault l.series d) b (day_written b l d)
+abbrev pub bytes_read : List ℕ → Day → Result Layout Refused → List ℕ
+bytes_read b d (Err refusal) = b
+bytes_read b d (Ok l) = bytes_by (day_fault l.series d) b (day_written b l d)
 
 -- The answer of the operation to any bytes and any day, and the lent bytes after it.
-unfoldable pub day_answer : List ℕ → Day → DayAnswer
+unfoldable pub day_answer : List ℕ → Day → Result (Unit {0}) Refused
 day_answer b d = answer_read d (file_read b)
 
 unfoldable pub file_after : List ℕ → Day → List ℕ
@@ -164,7 +163,7 @@ pub record After (d : Day) (a c : Account) : Type 0 where
 abbrev pub AcceptedAfterDemand : List ℕ → Day → Type 0
 AcceptedAfterDemand b d =
     (a : Account) → meaning b ≡ accepted a
-    → (c : Account) × (meaning (file_after b d) ≡ accepted c) × (day_answer b d ≡ Applied → After d a c)
+    → (c : Account) × (meaning (file_after b d) ≡ accepted c) × (day_answer b d ≡ applied → After d a c)
 
 -- "The same day applied again alters no byte", of any bytes.
 abbrev pub SameDayAgainDemand : List ℕ → Day → Type 0
@@ -180,4 +179,4 @@ Untouched b l d j =
 abbrev pub OnlyWrittenDemand : List ℕ → Day → Type 0
 OnlyWrittenDemand b d =
     (length (file_after b d) ≡ length b)
-    × ((l : Layout) → file_read b ≡ Accepted l → (j : ℕ) → Untouched b l d j → u8_at (file_after b d) j ≡ u8_at b j)
+    × ((l : Layout) → file_read b ≡ Ok l → (j : ℕ) → Untouched b l d j → u8_at (file_after b d) j ≡ u8_at b j)

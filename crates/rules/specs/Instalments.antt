@@ -1,23 +1,17 @@
 -- Document 02 [7], Pairing in instalments: which pairs a call makes, what the caller's list holds then, the amount between
 -- calls, and what is promised of them for every accepted file.
-use Rattle.std.specs.Prelude.{ℕ, ◌+◌, ◌*◌, ◌-◌, ◌≤◌, ◌<◌, min, Bool, true, false, not, ◌&&◌, ◌||◌, List, [], ◌∷◌, ◌++◌, ◌≡◌, eqb, ltb, length, drop, take}
+use Rattle.std.specs.Prelude.{ℕ, ◌+◌, ◌*◌, ◌-◌, ◌≤◌, ◌<◌, min, Bool, true, false, not, ◌&&◌, ◌||◌, List, [], ◌∷◌, ◌++◌, ◌≡◌, eqb, ltb, length, drop, take, Result, Ok, Err}
 use Rattle.rules.specs.File.{Account, account_of}
 use Rattle.rules.specs.Lines.{entries_for, left_lines, left_with_blocked, line_amount, pair_lines, premiums, sum_over, total, total_after}
 use Rattle.rules.specs.LongExpiries.{NoExceptedPut}
 use Rattle.rules.specs.Pairs.{Made, pairs_after}
 use Rattle.rules.specs.Promises.{LowFactors, OnePathEach, left_quantity, line_brings_in, pair_quantity, written_pay_out}
 use Rattle.rules.specs.Reais.{most_total}
-use Rattle.rules.specs.Refusals.{Check, accepted, file_read, first_fault, meaning}
-use Rattle.rules.specs.declared.AmountAnswer.{AmountAnswer}
-use Rattle.rules.specs.declared.AmountAnswer.TheVariants.{Amount, NoAmount}
-use Rattle.rules.specs.declared.Fault.{Fault}
-use Rattle.rules.specs.declared.Fault.TheVariants.{Clean, Found}
-use Rattle.rules.specs.declared.FileRead.{FileRead}
-use Rattle.rules.specs.declared.FileRead.TheVariants.{Accepted, Refused}
+use Rattle.rules.specs.Refusals.{Check, Fault, accepted, file_read, first_fault, meaning, refused_at}
 use Rattle.rules.specs.declared.Line.{Line}
-use Rattle.rules.specs.declared.PairAnswer.{PairAnswer}
-use Rattle.rules.specs.declared.PairAnswer.TheVariants.{Paired, NotPaired}
 use Rattle.rules.specs.declared.Refusal.TheVariants.{ListTooShort, NotFirstPairs}
+use Rattle.rules.specs.declared.Refused.{Refused}
+use Rattle.rules.specs.declared.Layout.{Layout}
 
 -- "the full pairing": all pairs of an account, as made. p rounds are enough (`Lines.lines`).
 abbrev pub all_pairs : Account → List Made
@@ -64,17 +58,17 @@ abbrev pub made_of : Account → ℕ → ℕ → ℕ
 made_of a count allowance = min allowance (length (all_pairs a) - count)
 
 -- It "reports how many it made", or the refusal.
-abbrev pub paired_unless : Fault → ℕ → PairAnswer
-paired_unless Clean made = Paired made
-paired_unless (Found w) made = NotPaired w 0
+abbrev pub paired_unless : Fault → ℕ → Result ℕ Refused
+paired_unless (Ok u) made = Ok made
+paired_unless (Err w) made = refused_at w 0
 
-abbrev pub pair_for_file : List ℕ → List Line → ℕ → ℕ → FileRead → PairAnswer
-pair_for_file b out count allowance (Refused w i) = NotPaired w i
-pair_for_file b out count allowance (Accepted l) =
+abbrev pub pair_for_file : List ℕ → List Line → ℕ → ℕ → Result Layout Refused → Result ℕ Refused
+pair_for_file b out count allowance (Err refusal) = Err refusal
+pair_for_file b out count allowance (Ok l) =
     paired_unless (instalment_fault (account_of b l) out count) (made_of (account_of b l) count allowance)
 
 -- "A call gets the file, the list and the number of pair lines already in it", and what it is allowed.
-unfoldable pub pair_answer : List ℕ → List Line → ℕ → ℕ → PairAnswer
+unfoldable pub pair_answer : List ℕ → List Line → ℕ → ℕ → Result ℕ Refused
 pair_answer b out count allowance = pair_for_file b out count allowance (file_read b)
 
 -- The lines of the n pairs that come after the first `count`.
@@ -83,10 +77,10 @@ next_pairs a count n = pair_lines a (take n (drop count (all_pairs a)))
 
 -- What the list holds after that answer: the pair lines there were, those of the pairs made after them, and every other entry
 -- as it was; on a refusal all as it was.
-abbrev pub list_for : List ℕ → List Line → ℕ → FileRead → PairAnswer → List Line
-list_for b out count read (NotPaired w i) = out
-list_for b out count (Refused w i) (Paired made) = out
-list_for b out count (Accepted l) (Paired made) =
+abbrev pub list_for : List ℕ → List Line → ℕ → Result Layout Refused → Result ℕ Refused → List Line
+list_for b out count read (Err refusal) = out
+list_for b out count (Err refusal) (Ok made) = out
+list_for b out count (Ok l) (Ok made) =
     take count out ++ (next_pairs (account_of b l) count made ++ drop (count + made) out)
 
 unfoldable pub list_paired : List ℕ → List Line → ℕ → ℕ → List Line
@@ -95,16 +89,16 @@ list_paired b out count allowance = list_for b out count (file_read b) (pair_ans
 -- "Between calls the account's amount may be requested: pairs so far, every remainder by the amount of its left line (0 if
 -- held), and the premiums": the total after `count` rounds of pairing, each of which makes a pair
 -- (`InstalmentLaws.first_after`).
-abbrev pub amount_unless : Fault → ℕ → AmountAnswer
-amount_unless Clean amount = Amount amount
-amount_unless (Found w) amount = NoAmount w 0
+abbrev pub amount_unless : Fault → ℕ → Result ℕ Refused
+amount_unless (Ok u) amount = Ok amount
+amount_unless (Err w) amount = refused_at w 0
 
-abbrev pub amount_for_list : List ℕ → List Line → ℕ → FileRead → AmountAnswer
-amount_for_list b out count (Refused w i) = NoAmount w i
-amount_for_list b out count (Accepted l) =
+abbrev pub amount_for_list : List ℕ → List Line → ℕ → Result Layout Refused → Result ℕ Refused
+amount_for_list b out count (Err refusal) = Err refusal
+amount_for_list b out count (Ok l) =
     amount_unless (instalment_fault (account_of b l) out count) (total_after (account_of b l) count)
 
-unfoldable pub amount_so_far : List ℕ → List Line → ℕ → AmountAnswer
+unfoldable pub amount_so_far : List ℕ → List Line → ℕ → Result ℕ Refused
 amount_so_far b out count = amount_for_list b out count (file_read b)
 
 -- A list and how many pair lines are in it: what a caller keeps between calls.
@@ -117,9 +111,9 @@ abbrev pub begun : List Line → PairedList
 begun out = record { list = out; count = 0 }
 
 -- How many pairs an answer tells.
-abbrev pub pairs_told : PairAnswer → ℕ
-pairs_told (Paired made) = made
-pairs_told (NotPaired w i) = 0
+abbrev pub pairs_told : Result ℕ Refused → ℕ
+pairs_told (Ok made) = made
+pairs_told (Err refusal) = 0
 
 -- After a call with this allowance.
 abbrev pub after_call : List ℕ → ℕ → PairedList → PairedList
@@ -142,9 +136,9 @@ pub record AfterAllowances (b : List ℕ) (a : Account) (out : List Line) (n : �
   -- "the pairs after it are the first ones of the full pairing", and every other entry is as it was
   pub list_is : kept.list ≡ first_pairs a n ++ drop kept.count out
   -- the next call is not refused,
-  pub next_is : (allowance : ℕ) → pair_answer b kept.list kept.count allowance ≡ Paired (made_of a kept.count allowance)
+  pub next_is : (allowance : ℕ) → pair_answer b kept.list kept.count allowance ≡ Ok (made_of a kept.count allowance)
   -- and the amount is that after n rounds (a round that finds no pair changes nothing).
-  pub amount_is : amount_so_far b kept.list kept.count ≡ Amount (total_after a n)
+  pub amount_is : amount_so_far b kept.list kept.count ≡ Ok (total_after a n)
 
 -- "every remainder": the left lines of the rows with contracts left after n pairs. Instalments do not write them.
 abbrev pub remainders : Account → ℕ → List Line
@@ -179,7 +173,7 @@ AllowancesDemand b =
 -- and every list and count for which an amount is answered.
 abbrev pub HalfPairedDemand : List ℕ → Type 0
 HalfPairedDemand b =
-    (a : Account) → meaning b ≡ accepted a → (out : List Line) (count amount : ℕ) → amount_so_far b out count ≡ Amount amount
+    (a : Account) → meaning b ≡ accepted a → (out : List Line) (count amount : ℕ) → amount_so_far b out count ≡ Ok amount
     → HalfPaired a (take count out) count amount
 
 -- The cover with the amount for the total, and these pairs.
@@ -191,5 +185,5 @@ CoverSoFar a pairs amount =
 -- The half-paired account is covered with any fb too, where it has no put that document 02 [11] excepts.
 abbrev pub HalfPairedLongDemand : List ℕ → Type 0
 HalfPairedLongDemand b =
-    (a : Account) → meaning b ≡ accepted a → (out : List Line) (count amount : ℕ) → amount_so_far b out count ≡ Amount amount
+    (a : Account) → meaning b ≡ accepted a → (out : List Line) (count amount : ℕ) → amount_so_far b out count ≡ Ok amount
     → NoExceptedPut a → CoverSoFar a (take count out) amount

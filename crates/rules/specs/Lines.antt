@@ -1,25 +1,20 @@
 -- Document 01, Pairs: spread amounts, lines and total.
-use Rattle.std.specs.Prelude.{ℕ, zero, suc, ◌+◌, ◌*◌, cond, List, [], ◌∷◌, ◌++◌, eqb, ltb, length, drop}
+use Rattle.std.specs.Prelude.{ℕ, zero, suc, ◌+◌, ◌*◌, cond, List, [], ◌∷◌, ◌++◌, eqb, ltb, length, drop, Option, Some, None, Result, Ok, Err}
 use Rattle.rules.specs.File.{Account, account_of, series_of_row}
 use Rattle.rules.specs.Limits.{most_positions}
 use Rattle.rules.specs.OnePosition.{amount_of, premium_of, unit_margin}
 use Rattle.rules.specs.Pairs.{Made, contracts_after, pairs_after}
-use Rattle.rules.specs.Refusals.{file_read}
+use Rattle.rules.specs.Refusals.{file_read, refused_at}
 use Rattle.rules.specs.Spreads.{unit_spread}
-use Rattle.rules.specs.declared.AmountAnswer.{AmountAnswer}
-use Rattle.rules.specs.declared.AmountAnswer.TheVariants.{Amount, NoAmount}
-use Rattle.rules.specs.declared.FileRead.{FileRead}
-use Rattle.rules.specs.declared.FileRead.TheVariants.{Accepted, Refused}
 use Rattle.rules.specs.declared.Line.{Line}
-use Rattle.rules.specs.declared.MarginAnswer.{MarginAnswer}
-use Rattle.rules.specs.declared.MarginAnswer.TheVariants.{Total, NoTotal}
 use Rattle.rules.specs.declared.Position.{Position}
 use Rattle.rules.specs.declared.Refusal.TheVariants.{ListTooShort}
 use Rattle.rules.specs.declared.Series.{Series}
 use Rattle.rules.specs.declared.Side.{Side}
 use Rattle.rules.specs.declared.Side.TheVariants.{Held, Written}
-use Rattle.rules.specs.declared.Spread.{Spread}
-use Rattle.rules.specs.declared.Spread.TheVariants.{Barred, Margin}
+use Rattle.rules.specs.declared.Refused.{Refused}
+use Rattle.rules.specs.declared.Tally.{Tally}
+use Rattle.rules.specs.declared.Layout.{Layout}
 
 -- The sum of f over 0 to n - 1, and over the elements of a list.
 unfoldable pub sum_to : (ℕ → ℕ) → ℕ → ℕ
@@ -36,9 +31,9 @@ Each P [] = Unit {0}
 Each P (x ∷ l) = P x × Each P l
 
 -- "A spread amount is unit × M × quantity, rounded as above". A barred pair is never made.
-abbrev pub spread_unit : Spread → ℕ
-spread_unit Barred = 0
-spread_unit (Margin unit) = unit
+abbrev pub spread_unit : Option ℕ → ℕ
+spread_unit None = 0
+spread_unit (Some unit) = unit
 
 abbrev pub spread_amount : Account → Made → ℕ
 spread_amount a m =
@@ -127,11 +122,11 @@ unfoldable pub premiums : Account → ℕ
 premiums a = sum_to (λ r. premium_at a r) a.positions
 
 -- A file's premiums by themselves: those of its account, or its refusal.
-abbrev pub premiums_of : List ℕ → FileRead → AmountAnswer
-premiums_of b (Refused w i) = NoAmount w i
-premiums_of b (Accepted l) = Amount (premiums (account_of b l))
+abbrev pub premiums_of : List ℕ → Result Layout Refused → Result ℕ Refused
+premiums_of b (Err refusal) = Err refusal
+premiums_of b (Ok l) = Ok (premiums (account_of b l))
 
-unfoldable pub premium_answer : List ℕ → AmountAnswer
+unfoldable pub premium_answer : List ℕ → Result ℕ Refused
 premium_answer b = premiums_of b (file_read b)
 
 -- "Total = line amounts + premium × M × Q of every held row", after n rounds and of the account.
@@ -141,22 +136,26 @@ total_after a n = sum_over line_amount (lines_after a n) + premiums a
 unfoldable pub total : Account → ℕ
 total a = total_after a a.positions
 
+-- So many lines and this total.
+abbrev pub comes_to : ℕ → ℕ → Result Tally Refused
+comes_to count total = Ok (record { count = count; total = total })
+
 -- The answer for a file and a list of n entries: the reading's refusal, then 12, "given below 2 × p entries" (document 02 [9]),
 -- with row 0; else the line count and the total.
-abbrev pub margin_for_list : List ℕ → ℕ → FileRead → MarginAnswer
-margin_for_list b n (Refused w i) = NoTotal w i
-margin_for_list b n (Accepted l) =
-    cond (ltb n (entries_for l.positions)) (NoTotal ListTooShort 0)
-    (Total (length (lines (account_of b l))) (total (account_of b l)))
+abbrev pub margin_for_list : List ℕ → ℕ → Result Layout Refused → Result Tally Refused
+margin_for_list b n (Err refusal) = Err refusal
+margin_for_list b n (Ok l) =
+    cond (ltb n (entries_for l.positions)) (refused_at ListTooShort 0)
+    (comes_to (length (lines (account_of b l))) (total (account_of b l)))
 
-unfoldable pub margin_answer : List ℕ → ℕ → MarginAnswer
+unfoldable pub margin_answer : List ℕ → ℕ → Result Tally Refused
 margin_answer b n = margin_for_list b n (file_read b)
 
 -- The lines of an answer: those of the account, none on a refusal.
-abbrev pub lines_for : List ℕ → FileRead → MarginAnswer → List Line
-lines_for b read (NoTotal w i) = []
-lines_for b (Refused w i) (Total n t) = []
-lines_for b (Accepted l) (Total n t) = lines (account_of b l)
+abbrev pub lines_for : List ℕ → Result Layout Refused → Result Tally Refused → List Line
+lines_for b read (Err refusal) = []
+lines_for b (Err refusal) (Ok margin) = []
+lines_for b (Ok l) (Ok margin) = lines (account_of b l)
 
 unfoldable pub lines_given : List ℕ → ℕ → List Line
 lines_given b n = lines_for b (file_read b) (margin_answer b n)

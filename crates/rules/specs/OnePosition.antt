@@ -1,14 +1,10 @@
 -- Document 01, One position (annex sections 1 to 4).
-use Rattle.std.specs.Prelude.{ℕ, ◌+◌, ◌*◌, ◌-◌, ◌/◌, min, max, Bool, true, false, cond, List, leb, ltb, ℤ, pos, neg_ℤ}
+use Rattle.std.specs.Prelude.{ℕ, ◌+◌, ◌*◌, ◌-◌, ◌/◌, min, max, Bool, true, false, cond, List, leb, ltb, ℤ, pos, neg_ℤ, Result, Ok, Err}
 use Rattle.rules.specs.File.{Account, account_of, series_of_row}
 use Rattle.rules.specs.Quantities.{fine, high, low, minimum}
-use Rattle.rules.specs.Refusals.{file_read, number}
-use Rattle.rules.specs.declared.AmountAnswer.{AmountAnswer}
-use Rattle.rules.specs.declared.AmountAnswer.TheVariants.{Amount, NoAmount}
+use Rattle.rules.specs.Refusals.{file_read, number, refused_at}
 use Rattle.rules.specs.declared.Barrier.{Barrier}
 use Rattle.rules.specs.declared.Barrier.TheVariants.{NoBarrier, UpIn, DownIn, UpOut, DownOut}
-use Rattle.rules.specs.declared.FileRead.{FileRead}
-use Rattle.rules.specs.declared.FileRead.TheVariants.{Accepted, Refused}
 use Rattle.rules.specs.declared.Limiter.{Limiter}
 use Rattle.rules.specs.declared.Limiter.TheVariants.{NoLimiter, At}
 use Rattle.rules.specs.declared.OptionType.{OptionType}
@@ -19,6 +15,8 @@ use Rattle.rules.specs.declared.Series.{Series}
 use Rattle.rules.specs.declared.Side.{Side}
 use Rattle.rules.specs.declared.Side.TheVariants.{Held, Written}
 use Rattle.rules.specs.declared.Terms.{Terms}
+use Rattle.rules.specs.declared.Refused.{Refused}
+use Rattle.rules.specs.declared.Layout.{Layout}
 
 -- "Flag 1 makes the position one without barrier and with REB 0."
 abbrev pub after_flag1 : Bool → Terms → Terms
@@ -128,16 +126,16 @@ position_amount a r = amount_by_side (a.position_at r).side (series_of_row a r) 
 
 -- "it hands over the file's bytes and a row and takes back that position's amount, or the refusal": the reading's
 -- refusal first, then 13, "row p or above", with row 0.
-abbrev pub amount_for_row : List ℕ → ℕ → FileRead → AmountAnswer
-amount_for_row b row (Refused w i) = NoAmount w i
-amount_for_row b row (Accepted l) =
-    cond (leb l.positions row) (NoAmount RowAskedFor 0) (Amount (position_amount (account_of b l) row))
+abbrev pub amount_for_row : List ℕ → ℕ → Result Layout Refused → Result ℕ Refused
+amount_for_row b row (Err refusal) = Err refusal
+amount_for_row b row (Ok l) =
+    cond (leb l.positions row) (refused_at RowAskedFor 0) (Ok (position_amount (account_of b l) row))
 
 -- The answer of the call for one position.
-unfoldable pub amount_answer : List ℕ → ℕ → AmountAnswer
+unfoldable pub amount_answer : List ℕ → ℕ → Result ℕ Refused
 amount_answer b row = amount_for_row b row (file_read b)
 
 -- "or the refusal number with a minus sign"
-abbrev pub signed_answer : AmountAnswer → ℤ
-signed_answer (Amount n) = pos n
-signed_answer (NoAmount w i) = neg_ℤ (pos (number w))
+abbrev pub signed_answer : Result ℕ Refused → ℤ
+signed_answer (Ok n) = pos n
+signed_answer (Err refusal) = neg_ℤ (pos (number refusal.why))

@@ -1,15 +1,14 @@
 -- Document 01, Checked values: what the margin program prints, in ASCII. "Output, in the field order above, or `refused`
 -- with number and row": a line a pair, a line a row left, `premium`, `total`. A number stands after a space, a line ends
 -- in a line feed.
-use Rattle.std.specs.Prelude.{ℕ, zero, suc, ◌+◌, ◌/◌, ◌%◌, cond, List, [], ◌∷◌, ◌++◌, eqb, ltb}
+use Rattle.std.specs.Prelude.{ℕ, zero, suc, ◌+◌, ◌/◌, ◌%◌, cond, List, [], ◌∷◌, ◌++◌, eqb, ltb, Result, Ok, Err}
 use Rattle.rules.specs.File.{account_of}
 use Rattle.rules.specs.Lines.{lines_given, margin_answer, most_lines, premiums}
 use Rattle.rules.specs.Refusals.{file_read, number}
-use Rattle.rules.specs.declared.FileRead.{FileRead}
-use Rattle.rules.specs.declared.FileRead.TheVariants.{Accepted, Refused}
 use Rattle.rules.specs.declared.Line.{Line}
-use Rattle.rules.specs.declared.MarginAnswer.{MarginAnswer}
-use Rattle.rules.specs.declared.MarginAnswer.TheVariants.{Total, NoTotal}
+use Rattle.rules.specs.declared.Refused.{Refused}
+use Rattle.rules.specs.declared.Tally.{Tally}
+use Rattle.rules.specs.declared.Layout.{Layout}
 
 -- The decimal digits of n: those of n / 10, then the last one. The first number bounds how many there are.
 unfoldable pub decimal_in : ℕ → ℕ → List ℕ
@@ -72,14 +71,14 @@ unfoldable pub refused_text : ℕ → ℕ → List ℕ
 refused_text n row = ((refused_word ++ number_text n) ++ number_text row) ++ line_feed
 
 -- "premium × M × Q of every held row", 0 where the file is refused.
-abbrev pub premiums_for : List ℕ → FileRead → ℕ
-premiums_for b (Refused w i) = 0
-premiums_for b (Accepted l) = premiums (account_of b l)
+abbrev pub premiums_for : List ℕ → Result Layout Refused → ℕ
+premiums_for b (Err refusal) = 0
+premiums_for b (Ok l) = premiums (account_of b l)
 
 -- The output for an answer.
-abbrev pub answer_text : List ℕ → MarginAnswer → List ℕ
-answer_text b (Total n sum) = lines_text (lines_given b most_lines) ++ totals_text (premiums_for b (file_read b)) sum
-answer_text b (NoTotal w row) = refused_text (number w) row
+abbrev pub answer_text : List ℕ → Result Tally Refused → List ℕ
+answer_text b (Ok margin) = lines_text (lines_given b most_lines) ++ totals_text (premiums_for b (file_read b)) margin.total
+answer_text b (Err refusal) = refused_text (number refusal.why) refusal.row
 
 -- The output for a file. A list of `most_lines` entries is never too short (`Answers.margin_most`).
 unfoldable pub margin_text : List ℕ → List ℕ

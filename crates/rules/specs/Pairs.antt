@@ -1,16 +1,12 @@
 -- Document 01, Pairs: which pairs are allowed, the order among them, and the pairing.
-use Rattle.std.specs.Prelude.{ℕ, zero, suc, ◌+◌, ◌-◌, min, Bool, true, false, cond, not, ◌&&◌, ◌||◌, List, [], ◌∷◌, ◌++◌, eqb, ltb}
+use Rattle.std.specs.Prelude.{ℕ, zero, suc, ◌+◌, ◌-◌, min, Bool, true, false, cond, not, ◌&&◌, ◌||◌, List, [], ◌∷◌, ◌++◌, eqb, ltb, Option, Some, None}
 use Rattle.rules.specs.File.{Account, series_of_row}
 use Rattle.rules.specs.OnePosition.{unit_margin}
 use Rattle.rules.specs.Spreads.{unit_spread}
-use Rattle.rules.specs.declared.Choice.{Choice}
-use Rattle.rules.specs.declared.Choice.TheVariants.{Pair, NoPair}
 use Rattle.rules.specs.declared.Position.{Position}
 use Rattle.rules.specs.declared.Series.{Series}
 use Rattle.rules.specs.declared.Side.{Side}
 use Rattle.rules.specs.declared.Side.TheVariants.{Held, Written}
-use Rattle.rules.specs.declared.Spread.{Spread}
-use Rattle.rules.specs.declared.Spread.TheVariants.{Barred, Margin}
 
 -- "one held and one written row"
 abbrev pub is_written : Side → Bool
@@ -27,9 +23,9 @@ abbrev pub may_be_paired : Position → Bool
 may_be_paired p = (p.flags.european || p.flags.beforeAnnex) && not p.flags.knockedOut
 
 -- "the written unit margin is greater than the spread's". A barred pair has none.
-abbrev pub lowers : ℕ → Spread → Bool
-lowers unit Barred = false
-lowers unit (Margin spread) = ltb spread unit
+abbrev pub lowers : ℕ → Option ℕ → Bool
+lowers unit None = false
+lowers unit (Some spread) = ltb spread unit
 
 -- All of "allowed" but the contracts left: "one held and one written row of a series, both European or opened before
 -- the annex", neither with flag 16, and the written unit margin greater than the spread's.
@@ -76,34 +72,34 @@ ahead k w h v g =
     || (eqb (k.gap w h) (k.gap v g) && (ltb w v || (eqb w v && ltb h g)))
 
 -- Whether a pair comes before the best so far; the first one does.
-abbrev pub ahead_of : Book → ℕ → ℕ → Choice → Bool
-ahead_of k w h NoPair = true
-ahead_of k w h (Pair v g) = ahead k w h v g
+abbrev pub ahead_of : Book → ℕ → ℕ → Option (ℕ × ℕ) → Bool
+ahead_of k w h None = true
+ahead_of k w h (Some (v, g)) = ahead k w h v g
 
 -- One pair looked at: it is taken over the best so far if it is allowed and comes before it.
-abbrev pub look : Book → (ℕ → ℕ) → ℕ → ℕ → Choice → Choice
-look k left w h best = cond (allowed k left w h && ahead_of k w h best) (Pair w h) best
+abbrev pub look : Book → (ℕ → ℕ) → ℕ → ℕ → Option (ℕ × ℕ) → Option (ℕ × ℕ)
+look k left w h best = cond (allowed k left w h && ahead_of k w h best) (Some (w, h)) best
 
 -- Written row w with each of held rows 0 to n - 1: the best so far, or the pair of w that comes before it and before
 -- all others of w.
-unfoldable pub along : Book → (ℕ → ℕ) → ℕ → ℕ → Choice → Choice
+unfoldable pub along : Book → (ℕ → ℕ) → ℕ → ℕ → Option (ℕ × ℕ) → Option (ℕ × ℕ)
 along k left w zero best = best
 along k left w (suc h) best = look k left w h (along k left w h best)
 
 -- Written rows 0 to n - 1 with every held row. What `along` and `through` find is an allowed pair that no allowed pair
 -- comes before, or none where none is allowed: the laws `Search.choice_allowed`, `choice_least` and `choice_none`.
-unfoldable pub through : Book → (ℕ → ℕ) → ℕ → Choice
-through k left zero = NoPair
+unfoldable pub through : Book → (ℕ → ℕ) → ℕ → Option (ℕ × ℕ)
+through k left zero = None
 through k left (suc w) = along k left w k.rows (through k left w)
 
 -- The pair to make next: of all allowed pairs the one that comes before the others, or none where none is allowed.
-abbrev pub choice : Book → (ℕ → ℕ) → Choice
+abbrev pub choice : Book → (ℕ → ℕ) → Option (ℕ × ℕ)
 choice k left = through k left k.rows
 
 -- "It takes the smaller quantity left", from both rows.
-abbrev pub taken : (ℕ → ℕ) → Choice → ℕ → ℕ
-taken left NoPair r = left r
-taken left (Pair w h) r = cond (eqb r w || eqb r h) (left r - min (left w) (left h)) (left r)
+abbrev pub taken : (ℕ → ℕ) → Option (ℕ × ℕ) → ℕ → ℕ
+taken left None r = left r
+taken left (Some (w, h)) r = cond (eqb r w || eqb r h) (left r - min (left w) (left h)) (left r)
 
 -- A pair as made.
 pub record Made : Type 0 where
@@ -112,9 +108,9 @@ pub record Made : Type 0 where
   pub quantity : ℕ
 
 -- The pair that a choice makes, if it is one.
-abbrev pub made_by : (ℕ → ℕ) → Choice → List Made
-made_by left NoPair = []
-made_by left (Pair w h) = record { written = w; held = h; quantity = min (left w) (left h) } ∷ []
+abbrev pub made_by : (ℕ → ℕ) → Option (ℕ × ℕ) → List Made
+made_by left None = []
+made_by left (Some (w, h)) = record { written = w; held = h; quantity = min (left w) (left h) } ∷ []
 
 -- Contracts left after n rounds. A round that finds no pair changes nothing.
 unfoldable pub left_after : Book → ℕ → (ℕ → ℕ) → ℕ → ℕ

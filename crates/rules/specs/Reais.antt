@@ -1,13 +1,12 @@
 -- Document 02 [6], Calls in whole reais: what is promised of the amounts of every accepted file. The rounding itself is
 -- `OnePosition.rounded_up`.
-use Rattle.std.specs.Prelude.{ℕ, ◌+◌, ◌*◌, ◌%◌, ◌≤◌, ◌<◌, min, cond, List, ◌≡◌, eqb, length}
+use Rattle.std.specs.Prelude.{ℕ, ◌+◌, ◌*◌, ◌%◌, ◌≤◌, ◌<◌, min, cond, List, ◌≡◌, eqb, length, Some}
 use Rattle.rules.specs.File.{Account, series_of_row}
 use Rattle.rules.specs.Lines.{Each, line_amount, lines, premiums, spread_unit, sum_over, sum_to, total, total_after}
 use Rattle.rules.specs.OnePosition.{position_amount, unit_margin}
 use Rattle.rules.specs.Pairs.{book_of, choice, contracts_after, pairs_after}
 use Rattle.rules.specs.Refusals.{accepted, meaning}
 use Rattle.rules.specs.Spreads.{unit_spread}
-use Rattle.rules.specs.declared.Choice.TheVariants.{Pair}
 use Rattle.rules.specs.declared.Line.{Line}
 use Rattle.rules.specs.declared.Position.{Position}
 use Rattle.rules.specs.declared.Series.{Series}
@@ -71,7 +70,7 @@ pub record WholeReais (a : Account) : Type 0 where
 -- It is not promised that pairing lowers the total, since each line is rounded by itself. How far pairing can raise it:
 pub record RaisedAtMost (a : Account) : Type 0 where
   -- the round that pairs rows w and h by at most 100 centavos, and by nothing where it leaves no contracts in row w,
-  pub by_a_pair : (n w h : ℕ) → choice (book_of a) (contracts_after a n) ≡ Pair w h
+  pub by_a_pair : (n w h : ℕ) → choice (book_of a) (contracts_after a n) ≡ Some (w, h)
       → total_after a (n + 1) ≤ total_after a n + 100 * min 1 (contracts_after a (n + 1) w)
   -- and n rounds by at most 100 centavos for each pair that they make.
   pub by_all_pairs : (n : ℕ) → total_after a n ≤ total_after a 0 + 100 * length (pairs_after a n)

@@ -1,20 +1,15 @@
 -- Document 01, Where a file is turned back: each refusal a test, in the order of the table, and the one meaning of a
 -- file.
-use Rattle.std.specs.Prelude.{ℕ, zero, suc, Bool, true, false, not, ◌&&◌, ◌||◌, List, [], ◌∷◌, eqb, leb, ltb, length}
+use Rattle.std.specs.Prelude.{ℕ, zero, suc, Bool, true, false, not, ◌&&◌, ◌||◌, List, [], ◌∷◌, eqb, leb, ltb, length, Result, Ok, Err}
 use Rattle.rules.specs.File.{Account, account_of, distance, flags_of, layout, position_count, position_of, position_row, series_count, series_row, span, trailer_spare, trailer_width}
 use Rattle.rules.specs.Limits.{most_bytes, most_positions, most_series}
-use Rattle.rules.specs.declared.Fault.{Fault}
-use Rattle.rules.specs.declared.Fault.TheVariants.{Clean, Found}
-use Rattle.rules.specs.declared.FileRead.{FileRead}
-use Rattle.rules.specs.declared.FileRead.TheVariants.{Accepted, Refused}
 use Rattle.rules.specs.declared.Layout.{Layout}
 use Rattle.rules.specs.declared.Position.{Position}
-use Rattle.rules.specs.declared.PositionRead.{PositionRead}
-use Rattle.rules.specs.declared.PositionRead.TheVariants.{Read, Unreadable}
 use Rattle.rules.specs.declared.PositionRow.{PositionRow}
 use Rattle.rules.specs.declared.Refusal.{Refusal}
 use Rattle.rules.specs.declared.Refusal.TheVariants.{FileSize, Trailer, Distance, SeriesRange, SeriesType, PositionTerms, PositionRange, LimiterPrice, BarrierPrice, BarrierSide, ListTooShort, RowAskedFor, FactorsAskedFor, SeriesAskedFor, DayPrices, NotFirstPairs, AboveCount, LoadAskedFor}
 use Rattle.rules.specs.declared.SeriesRow.{SeriesRow}
+use Rattle.rules.specs.declared.Refused.{Refused}
 
 -- The table's column "Number". Refusals 1 to 11 are a file's and tested here; 12 is tested in `Lines.margin_for_list`, for
 -- the caller's list (and in `Instalments.instalment_checks`), and 13 in `OnePosition.amount_for_row`, for the row asked for, each
@@ -129,9 +124,20 @@ wrong_barrier_side pv r =
     && (((eqb r.kind 1 || eqb r.kind 3) && leb r.price pv)
     || ((eqb r.kind 2 || eqb r.kind 4) && leb pv r.price))
 
+-- What checks find: nothing, or the refusal.
+abbrev pub Fault : Type 0
+Fault = Result (Unit {0}) Refusal
+
+abbrev pub clean : Fault
+clean = Ok tt
+
+-- "The answer is the number and the row": turned back for this refusal at this row.
+abbrev pub refused_at : {A : Type 0} → Refusal → ℕ → Result A Refused
+refused_at w row = Err (record { why = w; row = row })
+
 -- "Checked from top to bottom .. first fault wins": the refusal w where the test holds, else what comes after it.
 unfoldable pub refuse : Bool → Refusal → Fault → Fault
-refuse true w next = Found w
+refuse true w next = Err w
 refuse false w next = next
 
 -- A check: its test, which holds where the check fails, and the refusal given then.
@@ -140,7 +146,7 @@ Check = Bool × Refusal
 
 -- "Checked from top to bottom": the refusal of the first check that fails.
 abbrev pub first_fault : List Check → Fault
-first_fault [] = Clean
+first_fault [] = clean
 first_fault ((test, w) ∷ later) = refuse test w (first_fault later)
 
 -- The trailer's rows of the table, 1, 2 and 4. Document 02, request 1: "A file with p = 0 shall be accepted when the rest is
@@ -190,36 +196,36 @@ position_fault b l i =
     position_row_fault l.series (series_row b l (position_row b l i).series) (position_row b l i)
 
 -- The position, or its refusal.
-abbrev pub read_as : Fault → Position → PositionRead
-read_as Clean p = Read p
-read_as (Found w) p = Unreadable w
+abbrev pub read_as : Fault → Position → Result Position Refusal
+read_as (Ok u) p = Ok p
+read_as (Err w) p = Err w
 
 -- The reading of position row i.
-unfoldable pub position_read : List ℕ → Layout → ℕ → PositionRead
+unfoldable pub position_read : List ℕ → Layout → ℕ → Result Position Refusal
 position_read b l i = read_as (position_fault b l i) (position_of (position_row b l i))
 
 -- "A row that cannot be read ends the reading with its number": the fault at row i, or what comes after it.
-abbrev pub or_else : Fault → ℕ → FileRead → FileRead
-or_else Clean i next = next
-or_else (Found w) i next = Refused w i
+abbrev pub or_else : Fault → ℕ → Result Layout Refused → Result Layout Refused
+or_else (Ok u) i next = next
+or_else (Err w) i next = refused_at w i
 
 -- "each row whole before the next": rows 0 to n - 1 of a table, whose faults f gives, and then what comes after it.
 -- Row n - 1 stands innermost, so that row 0 is looked at first. What this finds is the first row with a fault, or that
 -- there is none: the laws `Scan.rows_stop` and `Scan.rows_clean`.
-unfoldable pub rows : (ℕ → Fault) → ℕ → FileRead → FileRead
+unfoldable pub rows : (ℕ → Fault) → ℕ → Result Layout Refused → Result Layout Refused
 rows f zero next = next
 rows f (suc n) next = rows f n (or_else (f n) n next)
 
 -- The position rows of a file, all before them being without fault.
-unfoldable pub position_rows : List ℕ → Layout → FileRead
-position_rows b l = rows (position_fault b l) l.positions (Accepted l)
+unfoldable pub position_rows : List ℕ → Layout → Result Layout Refused
+position_rows b l = rows (position_fault b l) l.positions (Ok l)
 
 -- "series rows before position rows"
-unfoldable pub series_rows : List ℕ → Layout → FileRead
+unfoldable pub series_rows : List ℕ → Layout → Result Layout Refused
 series_rows b l = rows (series_fault b l) l.series (position_rows b l)
 
 -- The reading of a file. "counted from 0 in its own table (0 for the trailer ..)"
-unfoldable pub file_read : List ℕ → FileRead
+unfoldable pub file_read : List ℕ → Result Layout Refused
 file_read b = or_else (trailer_fault b) 0 (series_rows b (layout b))
 
 -- "The answer is the number and the row", or the account.
@@ -228,9 +234,9 @@ pub data Meaning : Type 0 where
   accepted : Account → Meaning
 
 -- What a reading means: document 01's number and row, or the account where the rows stand.
-abbrev pub meant : List ℕ → FileRead → Meaning
-meant b (Refused w row) = refused (number w) row
-meant b (Accepted l) = accepted (account_of b l)
+abbrev pub meant : List ℕ → Result Layout Refused → Meaning
+meant b (Err refusal) = refused (number refusal.why) refusal.row
+meant b (Ok l) = accepted (account_of b l)
 
 -- The meaning of a file, from its bytes.
 unfoldable pub meaning : List ℕ → Meaning

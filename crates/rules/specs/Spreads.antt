@@ -1,6 +1,6 @@
 -- Document 01, Pairs (annex section 5), with document 02 [3]: the unit spread margin. Subscripts h and w are the held and
 -- the written row.
-use Rattle.std.specs.Prelude.{ℕ, ◌-◌, min, max, Bool, true, false, cond, ◌&&◌, eqb, leb, ltb}
+use Rattle.std.specs.Prelude.{ℕ, ◌-◌, min, max, Bool, true, false, cond, ◌&&◌, eqb, leb, ltb, Option, Some, None}
 use Rattle.rules.specs.OnePosition.{normal, rebate}
 use Rattle.rules.specs.Quantities.{fine, high, low, minimum}
 use Rattle.rules.specs.declared.Barrier.{Barrier}
@@ -11,8 +11,6 @@ use Rattle.rules.specs.declared.OptionType.{OptionType}
 use Rattle.rules.specs.declared.OptionType.TheVariants.{Call, Put}
 use Rattle.rules.specs.declared.Position.{Position}
 use Rattle.rules.specs.declared.Series.{Series}
-use Rattle.rules.specs.declared.Spread.{Spread}
-use Rattle.rules.specs.declared.Spread.TheVariants.{Barred, Margin}
 use Rattle.rules.specs.declared.Terms.{Terms}
 
 -- A barrier's kind and price, the numbers of the position row.
@@ -111,24 +109,24 @@ up_out_spread s ouh ouw h w =
     (D s.option (low s) (cond (up_reached s ouw) (fine ouw) (high s)) h w)
 
 -- Two rows whose barriers are of one kind: the written row's barrier and the held row's barrier price.
-abbrev pub one_kind_spread : Barrier → ℕ → Series → Terms → Terms → Spread
-one_kind_spread NoBarrier held_price s h w = Margin (strike_loss s.option h w)
-one_kind_spread (UpIn iuw) held_price s h w = Barred
-one_kind_spread (DownIn idw) held_price s h w = Barred
+abbrev pub one_kind_spread : Barrier → ℕ → Series → Terms → Terms → Option ℕ
+one_kind_spread NoBarrier held_price s h w = Some (strike_loss s.option h w)
+one_kind_spread (UpIn iuw) held_price s h w = None
+one_kind_spread (DownIn idw) held_price s h w = None
 -- "both up-and-out with OUh ≥ OUw"
-one_kind_spread (UpOut ouw) ouh s h w = cond (leb ouw ouh) (Margin (up_out_spread s ouh ouw h w)) Barred
+one_kind_spread (UpOut ouw) ouh s h w = cond (leb ouw ouh) (Some (up_out_spread s ouh ouw h w)) None
 -- "Both down-and-out with ODh ≤ ODw"
-one_kind_spread (DownOut odw) odh s h w = cond (leb odh odw) (Margin (down_out_spread s odh odw h w)) Barred
+one_kind_spread (DownOut odw) odh s h w = cond (leb odh odw) (Some (down_out_spread s odh odw h w)) None
 
 -- The rules in document 01's order, of normalised positions; the second one is document 02 [3]'s. "Nothing else pairs."
-abbrev pub spread_between : Series → Terms → Terms → Spread
+abbrev pub spread_between : Series → Terms → Terms → Option ℕ
 spread_between s h w =
-    cond (same h w) (Margin 0)
-    (cond (limiter_bars s.option h.limiter w.limiter) Barred
+    cond (same h w) (Some 0)
+    (cond (limiter_bars s.option h.limiter w.limiter) None
     (cond (eqb (kind_of h.barrier) (kind_of w.barrier))
     (one_kind_spread w.barrier (price_of h.barrier) s h w)
-    Barred))
+    None))
 
 -- The unit spread margin of held row h and written row w, "after flag 1 is applied".
-unfoldable pub unit_spread : Series → Position → Position → Spread
+unfoldable pub unit_spread : Series → Position → Position → Option ℕ
 unit_spread s h w = spread_between s (normal h) (normal w)

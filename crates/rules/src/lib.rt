@@ -1,6 +1,12 @@
-// The types of documents 01 and 02, and their sizes and limits. This crate has no functions: its specs/ are the definitions, its
-// proofs/ the theorems about them.
+// The types of documents 01 and 02, their sizes and limits, and what a row means. Its specs/ are the definitions, its proofs/
+// the theorems about them.
 #![tactic(auto)]
+
+ghost use Rattle.std.specs.Prelude.{◌≡◌};
+
+use std::fmt;
+
+pub mod values;
 
 // Sizes and limits as code has them. Contracts have the same by the same names (`trailer_width` and so on, in specs/File.antt,
 // Limits.antt and Lines.antt); where the two differ a proof fails.
@@ -51,13 +57,15 @@ pub enum Barrier {
 }
 
 // A position's limiter, PB, in ticks.
+// An enum of its own and no Option: document 01 names this form, "Position struct holds a barrier enum and a limiter enum" (a).
 #[derive(Clone, Copy)]
 pub enum Limiter {
     NoLimiter,
     At(u32),
 }
 
-// A series row, number by number, as it stands in the file.
+// A series row, number by number, as it stands in the file: its type is a number, since a wrong one is refused later (a:
+// `wrong_series_type` speaks of it).
 #[derive(Clone, Copy)]
 pub struct SeriesRow {
     pub pv: u32,
@@ -69,7 +77,8 @@ pub struct SeriesRow {
     pub spare: u32,
 }
 
-// A position row, number by number, as it stands in the file.
+// A position row, number by number, as it stands in the file: side, kind and flags are numbers, since wrong ones are refused
+// later (a: `wrong_terms` speaks of them).
 #[derive(Clone, Copy)]
 pub struct PositionRow {
     pub series: u32,
@@ -140,76 +149,64 @@ pub struct Layout {
     pub width: usize,
 }
 
-// Why a file or a call is turned back, in the order of document 01's table and then of document 02's requests. Document 01's
-// 3, for a file without positions, is withdrawn (document 02, request 1).
-#[derive(Clone, Copy)]
+// Why a file or a call is turned back, each with its number: those of document 01's table, then those of document 02's
+// requests. Document 01's 3, for a file without positions, is withdrawn (document 02, request 1).
+#[derive(Clone, Copy, Debug, PartialEq, Eq)]
 pub enum Refusal {
-    FileSize,
-    Trailer,
-    Distance,
-    SeriesRange,
-    SeriesType,
-    PositionTerms,
-    PositionRange,
-    LimiterPrice,
-    BarrierPrice,
-    BarrierSide,
-    ListTooShort,
-    RowAskedFor,
-    FactorsAskedFor,
-    SeriesAskedFor,
-    DayPrices,
-    NotFirstPairs,
-    AboveCount,
-    LoadAskedFor,
+    FileSize = 1,
+    Trailer = 2,
+    Distance = 4,
+    SeriesRange = 5,
+    SeriesType = 6,
+    PositionTerms = 7,
+    PositionRange = 8,
+    LimiterPrice = 9,
+    BarrierPrice = 10,
+    BarrierSide = 11,
+    ListTooShort = 12,
+    RowAskedFor = 13,
+    FactorsAskedFor = 14,
+    SeriesAskedFor = 16,
+    DayPrices = 17,
+    NotFirstPairs = 18,
+    AboveCount = 19,
+    LoadAskedFor = 20,
 }
 
-// What the checks of the trailer, of a row, of a day, of the lines in a list or of how many are to be taken apart find.
-#[derive(Clone, Copy)]
-pub enum Fault {
-    Clean,
-    Found(Refusal),
+// A refusal with its row, counted from 0 in its own table, 0 where it is no row's.
+#[derive(Clone, Copy, Debug, PartialEq, Eq)]
+pub struct Refused {
+    pub why: Refusal,
+    pub row: usize,
 }
 
-// A position row read: the position, or its refusal.
-#[derive(Clone, Copy)]
-pub enum PositionRead {
-    Read(Position),
-    Unreadable(Refusal),
+// A refusal as the programs print it: number and row.
+impl fmt::Display for Refused {
+    fn fmt<W: fmt::Write>(&self, f: &mut fmt::Formatter<W>) -> fmt::Result {
+        write!(f, "{} {}", self.why as u32, self.row)
+    }
 }
 
-// A file read: accepted, with where its rows stand, or refused with the row.
-#[derive(Clone, Copy)]
-pub enum FileRead {
-    Accepted(Layout),
-    Refused(Refusal, usize),
+// A refusal that is no row's.
+impl From<Refusal> for Refused {
+    ghost from_gives = { λ why e. e ≡ record { why = why; row = 0 } };
+
+    fn from(why: Refusal) -> Refused {
+        Refused { why, row: 0 }
+    }
 }
 
-// An amount in centavos, of one position, of the premiums or of an account between calls; or the refusal with its row.
+// How many lines there are, and the sum of their amounts; of an account's margin, the total.
 #[derive(Clone, Copy)]
-pub enum AmountAnswer {
-    Amount(u64),
-    NoAmount(Refusal, usize),
-}
-
-// The unit spread margin of a held and a written row: a number of fine units, or no pair.
-#[derive(Clone, Copy)]
-pub enum Spread {
-    Barred,
-    Margin(u64),
-}
-
-// The next pair to make: written row and held row, or none.
-#[derive(Clone, Copy)]
-pub enum Choice {
-    Pair(usize, usize),
-    NoPair,
+pub struct Tally {
+    pub count: usize,
+    pub total: u64,
 }
 
 // An entry of the caller's list, document 01's five whole numbers: 1 for a pair or 2 for a row left, then that line's
-// fields in order. A C program lends it as a struct of five 64-bit numbers.
+// fields in order. A C program lends it as a struct of five 64-bit numbers, so that the kind is a number too (a: C).
 #[repr(C)]
-#[derive(Clone, Copy)]
+#[derive(Clone, Copy, Debug, PartialEq, Eq)]
 pub struct Line {
     pub kind: u64,
     pub secondNumber: u64,
@@ -225,33 +222,4 @@ pub struct Day {
     pub high: u64,
     pub low: u64,
     pub close: u64,
-}
-
-// A day for a file: applied, or the refusal with its row.
-#[derive(Clone, Copy)]
-pub enum DayAnswer {
-    Applied,
-    NotApplied(Refusal, usize),
-}
-
-// A call of the pairing in instalments: how many pairs it made, or the refusal with its row. It is what the definitions
-// answer; the code goes from what it has worked out to the numbers that a C program is told.
-#[derive(Clone, Copy)]
-pub enum PairAnswer {
-    Paired(usize),
-    NotPaired(Refusal, usize),
-}
-
-// A call that takes pairs apart: how many pair lines are in the list after it, or the refusal with its row.
-#[derive(Clone, Copy)]
-pub enum ApartAnswer {
-    TakenApart(usize),
-    NotTakenApart(Refusal, usize),
-}
-
-// A file's margin: how many lines and the total in centavos, or the refusal with its row.
-#[derive(Clone, Copy)]
-pub enum MarginAnswer {
-    Total(usize, u64),
-    NoTotal(Refusal, usize),
 }

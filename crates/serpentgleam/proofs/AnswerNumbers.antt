@@ -14,12 +14,11 @@ use Rattle.rules.specs.File.{Account}
 use Rattle.rules.specs.Lines.{entries_for, lines, margin_answer, premium_answer, premiums, total}
 use Rattle.rules.specs.Refusals.{accepted, meaning, number, refused}
 use Rattle.rules.specs.declared.Day.{Day}
-use Rattle.rules.specs.declared.DayAnswer.{DayAnswer}
-use Rattle.rules.specs.declared.DayAnswer.TheVariants.{Applied, NotApplied}
-use Rattle.rules.specs.declared.MarginAnswer.{MarginAnswer}
-use Rattle.rules.specs.declared.MarginAnswer.TheVariants.{NoTotal, Total}
 use Rattle.serpentgleam.specs.DayNumbers.{day_numbers}
 use Rattle.serpentgleam.specs.MarginNumbers.{answer_numbers, margin_numbers}
+use Rattle.std.specs.Prelude.{Result, Ok, Err}
+use Rattle.rules.specs.declared.Refused.{Refused}
+use Rattle.rules.specs.declared.Tally.{Tally}
 
 module _ (b : List ℕ) (n : ℕ) where
   -- An accepted file and a list of at least 2 × p entries: refusal 0, row 0, the line count and the total.
@@ -43,13 +42,13 @@ module _ (b : List ℕ) (n : ℕ) where
   pub no_refusal : (margin_numbers (margin_answer b n)).refusal ≡ 0 → (a : Account) × (meaning b ≡ accepted a) × (entries_for a.positions ≤ n)
   no_refusal z = go (margin_answer b n) refl
     where
-      go : (x : MarginAnswer) → margin_answer b n ≡ x → (a : Account) × (meaning b ≡ accepted a) × (entries_for a.positions ≤ n)
-      go (Total count sum) e =
-          let k = answered b n count sum e in
-          (k.0, k.1, room_enough b k.0 k.1 n count sum e)
-      go (NoTotal w i) e =
-          let y : number w ≡ 0 = sym (ap (λ (x : MarginAnswer). (margin_numbers x).refusal) e) ∙ z in
-          absurd (omega (arith, number_range w))
+      go : (x : Result Tally Refused) → margin_answer b n ≡ x → (a : Account) × (meaning b ≡ accepted a) × (entries_for a.positions ≤ n)
+      go (Ok margin) e =
+          let k = answered b n margin.count margin.total e in
+          (k.0, k.1, room_enough b k.0 k.1 n margin.count margin.total e)
+      go (Err refusal) e =
+          let y : number refusal.why ≡ 0 = sym (ap (λ (x : Result Tally Refused). (margin_numbers x).refusal) e) ∙ z in
+          absurd (omega (arith, number_range refusal.why))
 
 -- The premiums that `serpentgleam_premiums` tells: of an accepted file its account's, of a refused one its number and row.
 module _ (b : List ℕ) where
@@ -84,8 +83,8 @@ module _ (b : List ℕ) (d : Day) where
   pub no_day_refusal : (day_numbers (day_answer b d)).refusal ≡ 0 → (a : Account) × (meaning b ≡ accepted a) × DayWithin a.series d
   no_day_refusal z = go (day_answer b d) refl
     where
-      go : (x : DayAnswer) → day_answer b d ≡ x → (a : Account) × (meaning b ≡ accepted a) × DayWithin a.series d
-      go Applied e = day_only b d e
-      go (NotApplied w i) e =
-          let y : number w ≡ 0 = sym (ap (λ (x : DayAnswer). (day_numbers x).refusal) e) ∙ z in
-          absurd (omega (arith, number_range w))
+      go : (x : Result (Unit {0}) Refused) → day_answer b d ≡ x → (a : Account) × (meaning b ≡ accepted a) × DayWithin a.series d
+      go (Ok u) e = day_only b d e
+      go (Err refusal) e =
+          let y : number refusal.why ≡ 0 = sym (ap (λ (x : Result (Unit {0}) Refused). (day_numbers x).refusal) e) ∙ z in
+          absurd (omega (arith, number_range refusal.why))

@@ -12,9 +12,11 @@ use Rattle.lines.specs.LineNumbers.{line_count, lines_from, numbers_per_line}
 use Rattle.lines_and_total.specs.Settled.{Settled}
 use Rattle.rules.specs.Lines.{lines_given, list_after}
 use Rattle.rules.specs.declared.Line.{Line}
-use Rattle.rules.specs.declared.MarginAnswer.{MarginAnswer}
+use Rattle.std.specs.Prelude.{Result}
+use Rattle.rules.specs.declared.Refused.{Refused}
+use Rattle.rules.specs.declared.Tally.{Tally}
 
-module _ (b : List ℕ) (out : List Line) (numbers : List ℕ) (r : MarginAnswer) (s : Settled b (length out) numbers r) (n : ℕ) (e : n ≡ line_count r) where
+module _ (b : List ℕ) (out : List Line) (numbers : List ℕ) (r : Result Tally Refused) (s : Settled b (length out) numbers r) (n : ℕ) (e : n ≡ line_count r) where
   -- The lines fit into the list and stand in the numbers.
   pub fits : (0 ≤ n) × (n ≤ length out) × (numbers_per_line * n ≤ length numbers)
   fits = (omega arith, omega (arith, e, s.count_most), omega (arith, e, s.count_small, s.numbers_length))

@@ -3,4 +3,3 @@ pub mod MarginNumbers
 pub mod InstalmentNumbers
 pub mod FactorNumbers
 pub mod DayNumbers
-pub mod LoadNumbers

@@ -11,23 +11,23 @@ ghost use Rattle.rules.specs.OnePosition.{amount_answer, signed_answer};
 ghost use Rattle.rules.specs.TakingApart.{apart_answer, list_apart};
 ghost use Rattle.serpentgleam.specs.DayNumbers.{day_numbers, day_of};
 ghost use Rattle.serpentgleam.specs.FactorNumbers.{FactorsTold, factor_numbers};
-ghost use Rattle.serpentgleam.specs.InstalmentNumbers.{apart_numbers, pair_numbers, told_numbers};
-ghost use Rattle.serpentgleam.specs.LoadNumbers.{load_numbers};
+ghost use Rattle.serpentgleam.specs.InstalmentNumbers.{told_numbers};
 ghost use Rattle.serpentgleam.specs.MarginNumbers.{answer_numbers, margin_numbers};
 
 use day::apply_day;
-use factors::{FactorsAnswer, factors};
+use factors::factors;
+use factors::formulas::Factors;
 use instalments::{
     CallLines, amount_after, lines_after, lines_compared, lines_kept, next_pairs, taken_apart,
 };
 use lent::{agree, write_entries};
 use lines::{MOST_NUMBERS, MOST_PAIR_NUMBERS};
 use lines_and_total::{line_count, premium_answer, settle};
-use load::{LoadAnswer, load};
+use load::load;
 use position::amount::amount_for_row;
 use position::answer::signed;
 use refusals::refusal_number;
-use rules::{AmountAnswer, ApartAnswer, Day, DayAnswer, Line, MarginAnswer, Refusal};
+use rules::{Day, Line, Refusal, Refused, Tally};
 
 // A file's margin as numbers, the header's `serpentgleam_result`: 0, 0, the line count and the total in centavos; or the
 // refusal's number, its row, 0 and 0.
@@ -40,20 +40,20 @@ pub struct Margin {
     pub total: u64,
 }
 
-// The numbers of an answer.
-fn numbers_of(answer: MarginAnswer) -> Margin
+// The numbers of a refusal are its own and its row's; an answer has two zeros in their place.
+fn numbers_of(answer: Result<Tally, Refused>) -> Margin
     ensures { result ≡ margin_numbers answer }
 {
     match answer {
-        MarginAnswer::Total(n, total) => Margin {
+        Ok(margin) => Margin {
             refusal: 0,
             row: 0,
-            lines: n as u64,
-            total: total,
+            lines: margin.count as u64,
+            total: margin.total,
         },
-        MarginAnswer::NoTotal(why, row) => Margin {
-            refusal: refusal_number(why) as u64,
-            row: row as u64,
+        Err(refused) => Margin {
+            refusal: refusal_number(refused.why) as u64,
+            row: refused.row as u64,
             lines: 0,
             total: 0,
         },
@@ -70,101 +70,38 @@ pub struct Answer {
     pub value: u64,
 }
 
-fn answer_of(answer: AmountAnswer) -> Answer
+fn answer_of(answer: Result<u64, Refused>) -> Answer
     ensures { result ≡ answer_numbers answer }
 {
     match answer {
-        AmountAnswer::Amount(value) => Answer {
+        Ok(value) => Answer {
             refusal: 0,
             row: 0,
             value,
         },
-        AmountAnswer::NoAmount(why, row) => Answer {
-            refusal: refusal_number(why) as u64,
-            row: row as u64,
+        Err(refused) => Answer {
+            refusal: refusal_number(refused.why) as u64,
+            row: refused.row as u64,
             value: 0,
         },
     }
 }
 
-fn day_numbers(answer: DayAnswer) -> Answer
-    ensures { result ≡ day_numbers answer }
-{
-    match answer {
-        DayAnswer::Applied => Answer {
-            refusal: 0,
-            row: 0,
-            value: 0,
-        },
-        DayAnswer::NotApplied(why, row) => Answer {
-            refusal: refusal_number(why) as u64,
-            row: row as u64,
-            value: 0,
-        },
-    }
-}
-
-// The numbers of a call of the pairing in instalments: 18 where the list does not begin with its lines.
-fn told(ready: CallLines, same: bool) -> Answer
+// What is told of a call with lines: 18 where the list does not begin with its lines.
+fn told(ready: Result<CallLines, Refused>, same: bool) -> Answer
     ensures { result ≡ told_numbers ready same }
 {
     match ready {
-        CallLines::Lines(_, _, value) => {
-            if same {
-                return Answer {
-                    refusal: 0,
-                    row: 0,
-                    value,
-                };
-            }
-            Answer {
-                refusal: refusal_number(Refusal::NotFirstPairs) as u64,
-                row: 0,
-                value: 0,
-            }
-        }
-        CallLines::NoLines(why, row) => Answer {
-            refusal: refusal_number(why) as u64,
-            row: row as u64,
-            value: 0,
-        },
+        Ok(_) if !same => answer_of(Err(Refusal::NotFirstPairs.into())),
+        _ => answer_of(ready.map(|lines| lines.value)),
     }
 }
 
-// The numbers of a call that takes pairs apart.
-fn apart_numbers(answer: ApartAnswer) -> Answer
-    ensures { result ≡ apart_numbers answer }
+// What is told of a call that takes pairs apart.
+fn lines_left(answer: Result<usize, Refused>) -> Answer
+    ensures { result ≡ answer_numbers answer }
 {
-    match answer {
-        ApartAnswer::TakenApart(left) => Answer {
-            refusal: 0,
-            row: 0,
-            value: left as u64,
-        },
-        ApartAnswer::NotTakenApart(why, row) => Answer {
-            refusal: refusal_number(why) as u64,
-            row: row as u64,
-            value: 0,
-        },
-    }
-}
-
-// The numbers of a load.
-fn load_numbers(answer: LoadAnswer) -> Answer
-    ensures { result ≡ load_numbers answer }
-{
-    match answer {
-        LoadAnswer::Made(bytes) => Answer {
-            refusal: 0,
-            row: 0,
-            value: bytes,
-        },
-        LoadAnswer::NotMade(why, row) => Answer {
-            refusal: refusal_number(why) as u64,
-            row: row as u64,
-            value: 0,
-        },
-    }
+    answer_of(answer.map(|left| left as u64))
 }
 
 // Factors as numbers, the header's `struct serpentgleam_factors`: 0, 0, fa and fb in millionths; or the refusal's number, its
@@ -178,19 +115,19 @@ pub struct FactorNumbers {
     pub fb: u64,
 }
 
-fn factor_numbers(answer: FactorsAnswer) -> FactorNumbers
+fn factor_numbers(answer: Result<Factors, Refused>) -> FactorNumbers
     ensures { result ≡ factor_numbers answer }
 {
     match answer {
-        FactorsAnswer::Factors(fa, fb) => FactorNumbers {
+        Ok(told) => FactorNumbers {
             refusal: 0,
             row: 0,
-            fa,
-            fb,
+            fa: told.fa,
+            fb: told.fb,
         },
-        FactorsAnswer::NoFactors(why, row) => FactorNumbers {
-            refusal: refusal_number(why) as u64,
-            row: row as u64,
+        Err(refused) => FactorNumbers {
+            refusal: refusal_number(refused.why) as u64,
+            row: refused.row as u64,
             fa: 0,
             fb: 0,
         },
@@ -254,8 +191,7 @@ pub extern "C" fn serpentgleam_day(
         low,
         close,
     };
-    let answer = apply_day(file, d);
-    day_numbers(answer)
+    answer_of(apply_day(file, d).map(|()| 0))
 }
 
 // The next pairs of the file, as many as allowed, after the `count` pair lines that the caller's list begins with: how many
@@ -268,7 +204,7 @@ pub extern "C" fn serpentgleam_pair(
     count: u64,
     allowance: u64,
 ) -> Answer
-    ensures numbers { result ≡ pair_numbers (pair_answer file.now lines.old count allowance) }
+    ensures numbers { result ≡ answer_numbers (pair_answer file.now lines.old count allowance) }
     ensures list { lines.new ≡ list_paired file.now lines.old count allowance }
 {
     let mut numbers = [0u64; MOST_PAIR_NUMBERS];
@@ -303,7 +239,7 @@ pub extern "C" fn serpentgleam_take_apart(
     count: u64,
     k: u64,
 ) -> Answer
-    ensures numbers { result ≡ apart_numbers (apart_answer file.now lines.old count k) }
+    ensures numbers { result ≡ answer_numbers (apart_answer file.now lines.old count k) }
     ensures list { lines.new ≡ list_apart file.now lines.old count k }
 {
     let mut numbers = [0u64; MOST_PAIR_NUMBERS];
@@ -314,16 +250,15 @@ pub extern "C" fn serpentgleam_take_apart(
     let kept = lines_kept(answer, n);
     let zeros = [0u64; MOST_PAIR_NUMBERS];
     write_entries(lines, kept, n, &zeros);
-    apart_numbers(answer)
+    lines_left(answer)
 }
 
 // An account for the bench, of a seed and `p` rows, at the beginning of the lent buffer: the bytes of its file, or the refusal,
 // on which the buffer keeps its content. Bytes after the file stay. Any numbers and any buffer may be handed over.
 #[unsafe(no_mangle)]
 pub extern "C" fn serpentgleam_load(seed: u64, p: u64, buffer: &mut [u8]) -> Answer
-    ensures numbers { result ≡ load_numbers (load_answer seed p (length buffer.old)) }
+    ensures numbers { result ≡ answer_numbers (load_answer seed p (length buffer.old)) }
     ensures bytes { buffer.new ≡ buffer_after seed p buffer.old }
 {
-    let answer = load(seed, p, buffer);
-    load_numbers(answer)
+    answer_of(load(seed, p, buffer))
 }

@@ -7,14 +7,13 @@ use native.Mathlib.Omega.{arith}
 use borrow.Author.Tests.{le-ltb, lt-ltb}
 use Rattle.rules.specs.Lines.{spread_unit}
 use Rattle.rules.specs.Pairs.{lowers}
-use Rattle.rules.specs.declared.Spread.{Spread}
-use Rattle.rules.specs.declared.Spread.TheVariants.{Barred, Margin}
 use Rattle.spreads.specs.Charges.{charge_of}
+use Rattle.std.specs.Prelude.{Option, Some, None}
 
-pub charge_lowers : (unit : ℕ) (s : Spread) → charge_of unit s < unit → (lowers unit s ≡ true) × (charge_of unit s ≡ spread_unit s)
-charge_lowers unit Barred l = absurd (omega arith)
-charge_lowers unit (Margin c) l = (lt-ltb c unit l, refl)
+pub charge_lowers : (unit : ℕ) (s : Option ℕ) → charge_of unit s < unit → (lowers unit s ≡ true) × (charge_of unit s ≡ spread_unit s)
+charge_lowers unit None l = absurd (omega arith)
+charge_lowers unit (Some c) l = (lt-ltb c unit l, refl)
 
-pub charge_not : (unit : ℕ) (s : Spread) → unit ≤ charge_of unit s → lowers unit s ≡ false
-charge_not unit Barred l = refl
-charge_not unit (Margin c) l = le-ltb c unit l
+pub charge_not : (unit : ℕ) (s : Option ℕ) → unit ≤ charge_of unit s → lowers unit s ≡ false
+charge_not unit None l = refl
+charge_not unit (Some c) l = le-ltb c unit l

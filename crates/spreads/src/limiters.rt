@@ -18,11 +18,9 @@ fn held_nearer(option: OptionType, held: u32, written: u32) -> bool
 pub fn limiter_bars(option: OptionType, h: Limiter, w: Limiter) -> bool
     ensures { result ≡ limiter_bars option h w }
 {
-    match h {
-        Limiter::NoLimiter => false,
-        Limiter::At(held) => match w {
-            Limiter::NoLimiter => true,
-            Limiter::At(written) => held_nearer(option, held, written),
-        },
+    match (h, w) {
+        (Limiter::NoLimiter, _) => false,
+        (Limiter::At(_), Limiter::NoLimiter) => true,
+        (Limiter::At(held), Limiter::At(written)) => held_nearer(option, held, written),
     }
 }

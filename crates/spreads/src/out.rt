@@ -48,13 +48,12 @@ fn out_spread(covers: bool, reachable: bool, s: Series, loss: u64, difference: u
 pub fn down_out_spread(s: Series, odh: u32, odw: u32, h: Terms, w: Terms) -> u64
     ensures { result ≡ down_out_spread s odh odw h w }
 {
-    let option = s.option;
     let barrier = fine_units(odw);
     let low = low_price(s);
     let reachable = low <= barrier;
-    let covers = strike_covers(option, h, w);
+    let covers = strike_covers(s.option, h, w);
     let loss = rebate_loss(odh == odw, h, w);
-    let difference = out_loss(option, larger(barrier, low), high_price(s), h, w);
+    let difference = out_loss(s.option, larger(barrier, low), high_price(s), h, w);
     out_spread(covers, reachable, s, loss, difference)
 }
 
@@ -62,12 +61,11 @@ pub fn down_out_spread(s: Series, odh: u32, odw: u32, h: Terms, w: Terms) -> u64
 pub fn up_out_spread(s: Series, ouh: u32, ouw: u32, h: Terms, w: Terms) -> u64
     ensures { result ≡ up_out_spread s ouh ouw h w }
 {
-    let option = s.option;
     let barrier = fine_units(ouw);
     let high = high_price(s);
     let reachable = barrier <= high;
-    let covers = strike_covers(option, h, w);
+    let covers = strike_covers(s.option, h, w);
     let loss = rebate_loss(ouh == ouw, h, w);
-    let difference = out_loss(option, low_price(s), smaller(barrier, high), h, w);
+    let difference = out_loss(s.option, low_price(s), smaller(barrier, high), h, w);
     out_spread(covers, reachable, s, loss, difference)
 }

@@ -4,16 +4,13 @@ ghost use Rattle.rules.specs.Spreads.{spread_between};
 ghost use Rattle.spreads.specs.Charges.{charge_of};
 
 use crate::spread::spread_between;
-use rules::{Series, Spread, Terms};
+use rules::{Series, Terms};
 
 // The spread's unit, or the written unit margin where there is none.
-fn charge_of(unit: u64, spread: Spread) -> u64
+fn charge_of(unit: u64, spread: Option<u64>) -> u64
     ensures { result ≡ charge_of unit spread }
 {
-    match spread {
-        Spread::Barred => unit,
-        Spread::Margin(charged) => charged,
-    }
+    spread.unwrap_or(unit)
 }
 
 // The charge of a held and a written row of series s, h and w after flag 1: below the written unit margin exactly where

@@ -2,13 +2,12 @@
 ghost use Rattle.std.specs.Prelude.{◌≡◌, cond};
 ghost use Rattle.rules.specs.Spreads.{one_kind_spread, same, spread_between, strike_loss};
 ghost use Rattle.rules.specs.declared.Barrier.TheVariants.{DownOut, UpOut};
-ghost use Rattle.rules.specs.declared.Spread.TheVariants.{Barred, Margin};
 
 use crate::limiters::limiter_bars;
 use crate::out::{down_out_spread, up_out_spread};
-use crate::terms::{is_knock_in, kind_of, price_of, same_terms};
+use crate::terms::same_terms;
 use numbers::{fine_units, less};
-use rules::{Barrier, OptionType, Series, Spread, Terms};
+use rules::{Barrier, OptionType, Series, Terms};
 
 // No barriers: max(0; PEh − PEw) for calls, max(0; PEw − PEh) for puts.
 fn strike_loss(option: OptionType, h: Terms, w: Terms) -> u64
@@ -21,68 +20,42 @@ fn strike_loss(option: OptionType, h: Terms, w: Terms) -> u64
 }
 
 // Both up-and-out pair with OUh ≥ OUw.
-fn both_up_out(ouw: u32, ouh: u32, s: Series, h: Terms, w: Terms) -> Spread
+fn both_up_out(ouw: u32, ouh: u32, s: Series, h: Terms, w: Terms) -> Option<u64>
     ensures { result ≡ one_kind_spread (UpOut ouw) ouh s h w }
 {
-    if ouw <= ouh {
-        return Spread::Margin(up_out_spread(s, ouh, ouw, h, w));
-    }
-    Spread::Barred
+    (ouw <= ouh).then(|| up_out_spread(s, ouh, ouw, h, w))
 }
 
 // Both down-and-out pair with ODh ≤ ODw.
-fn both_down_out(odw: u32, odh: u32, s: Series, h: Terms, w: Terms) -> Spread
+fn both_down_out(odw: u32, odh: u32, s: Series, h: Terms, w: Terms) -> Option<u64>
     ensures { result ≡ one_kind_spread (DownOut odw) odh s h w }
 {
-    if odh <= odw {
-        return Spread::Margin(down_out_spread(s, odh, odw, h, w));
-    }
-    Spread::Barred
-}
-
-// Two rows whose barriers are of one kind: the written barrier and the held barrier's price.
-fn one_kind_spread(barrier: Barrier, held: u32, s: Series, h: Terms, w: Terms) -> Spread
-    ensures { result ≡ one_kind_spread barrier held s h w }
-{
-    let option = s.option;
-    match barrier {
-        Barrier::NoBarrier => Spread::Margin(strike_loss(option, h, w)),
-        Barrier::UpIn(_) => Spread::Barred,
-        Barrier::DownIn(_) => Spread::Barred,
-        Barrier::UpOut(ouw) => both_up_out(ouw, held, s, h, w),
-        Barrier::DownOut(odw) => both_down_out(odw, held, s, h, w),
-    }
+    (odh <= odw).then(|| down_out_spread(s, odh, odw, h, w))
 }
 
 // Rows that pair with identical rows only: 0 for those, no pair for others.
-fn identical_spread(h: Terms, w: Terms) -> Spread
-    ensures { result ≡ cond (same h w) (Margin 0) Barred }
+fn identical_spread(h: Terms, w: Terms) -> Option<u64>
+    ensures { result ≡ cond (same h w) (Some 0) None }
 {
-    if same_terms(h, w) {
-        return Spread::Margin(0);
-    }
-    Spread::Barred
+    same_terms(h, w).then_some(0)
 }
 
 // The unit spread margin of a held and a written row, of normalised positions, or no pair. Identical rows are asked for
 // only where no other rows pair, which is with knock-ins: elsewhere the rules give them 0 by themselves, and their limiters
 // bar no pair.
-pub fn spread_between(s: Series, h: Terms, w: Terms) -> Spread
+pub fn spread_between(s: Series, h: Terms, w: Terms) -> Option<u64>
     ensures { result ≡ spread_between s h w }
 {
-    let option = s.option;
-    let held = h.limiter;
-    let written = w.limiter;
-    if limiter_bars(option, held, written) {
-        return Spread::Barred;
+    if limiter_bars(s.option, h.limiter, w.limiter) {
+        return None;
     }
-    let held = h.barrier;
-    let written = w.barrier;
-    if kind_of(held) != kind_of(written) {
-        return Spread::Barred;
+    match (h.barrier, w.barrier) {
+        (Barrier::NoBarrier, Barrier::NoBarrier) => Some(strike_loss(s.option, h, w)),
+        (Barrier::UpIn(_), Barrier::UpIn(_)) | (Barrier::DownIn(_), Barrier::DownIn(_)) => {
+            identical_spread(h, w)
+        }
+        (Barrier::UpOut(ouh), Barrier::UpOut(ouw)) => both_up_out(ouw, ouh, s, h, w),
+        (Barrier::DownOut(odh), Barrier::DownOut(odw)) => both_down_out(odw, odh, s, h, w),
+        _ => None,
     }
-    if is_knock_in(written) {
-        return identical_spread(h, w);
-    }
-    one_kind_spread(written, price_of(held), s, h, w)
 }

@@ -1,97 +1,32 @@
 // Two positions compared by their terms.
 ghost use Rattle.std.specs.Prelude.{◌≡◌};
-ghost use Rattle.rules.proofs.SpreadForms.{knock_in};
-ghost use Rattle.rules.specs.declared.Barrier.TheVariants.{NoBarrier};
-ghost use Rattle.rules.specs.Spreads.{kind_of, price_of, same, same_barrier, same_limiter, strike_covers};
+ghost use Rattle.rules.specs.Spreads.{same, same_barrier, same_limiter, strike_covers};
 
 use rules::{Barrier, Limiter, OptionType, Terms};
 
-pub fn kind_of(barrier: Barrier) -> u32
-    ensures { result ≡ kind_of barrier }
-{
-    match barrier {
-        Barrier::NoBarrier => 0,
-        Barrier::UpIn(_) => 1,
-        Barrier::DownIn(_) => 2,
-        Barrier::UpOut(_) => 3,
-        Barrier::DownOut(_) => 4,
-    }
-}
-
-pub fn price_of(barrier: Barrier) -> u32
-    ensures { result ≡ price_of barrier }
-{
-    match barrier {
-        Barrier::NoBarrier => 0,
-        Barrier::UpIn(price) => price,
-        Barrier::DownIn(price) => price,
-        Barrier::UpOut(price) => price,
-        Barrier::DownOut(price) => price,
-    }
-}
-
-// A limiter at 0 is not the same as none.
+// A limiter at 0 is not the same as none. Compared by match, as document 01 has it (a).
 fn same_limiter(h: Limiter, w: Limiter) -> bool
     ensures { result ≡ same_limiter h w }
 {
-    match h {
-        Limiter::NoLimiter => match w {
-            Limiter::NoLimiter => true,
-            Limiter::At(_) => false,
-        },
-        Limiter::At(held) => match w {
-            Limiter::NoLimiter => false,
-            Limiter::At(written) => held == written,
-        },
-    }
-}
-
-fn is_without_barrier(w: Barrier) -> bool
-    ensures { result ≡ same_barrier NoBarrier w }
-{
-    match w {
-        Barrier::NoBarrier => true,
-        Barrier::UpIn(_) => false,
-        Barrier::DownIn(_) => false,
-        Barrier::UpOut(_) => false,
-        Barrier::DownOut(_) => false,
+    match (h, w) {
+        (Limiter::NoLimiter, Limiter::NoLimiter) => true,
+        (Limiter::At(held), Limiter::At(written)) => held == written,
+        _ => false,
     }
 }
 
 // The same kind of barrier at the same price.
+// A match and no derived equality: document 01's form has a normalised position compared by match (a).
 fn same_barrier(h: Barrier, w: Barrier) -> bool
     ensures { result ≡ same_barrier h w }
 {
-    match h {
-        Barrier::NoBarrier => is_without_barrier(w),
-        Barrier::UpIn(held) => match w {
-            Barrier::NoBarrier => false,
-            Barrier::UpIn(written) => held == written,
-            Barrier::DownIn(_) => false,
-            Barrier::UpOut(_) => false,
-            Barrier::DownOut(_) => false,
-        },
-        Barrier::DownIn(held) => match w {
-            Barrier::NoBarrier => false,
-            Barrier::UpIn(_) => false,
-            Barrier::DownIn(written) => held == written,
-            Barrier::UpOut(_) => false,
-            Barrier::DownOut(_) => false,
-        },
-        Barrier::UpOut(held) => match w {
-            Barrier::NoBarrier => false,
-            Barrier::UpIn(_) => false,
-            Barrier::DownIn(_) => false,
-            Barrier::UpOut(written) => held == written,
-            Barrier::DownOut(_) => false,
-        },
-        Barrier::DownOut(held) => match w {
-            Barrier::NoBarrier => false,
-            Barrier::UpIn(_) => false,
-            Barrier::DownIn(_) => false,
-            Barrier::UpOut(_) => false,
-            Barrier::DownOut(written) => held == written,
-        },
+    match (h, w) {
+        (Barrier::NoBarrier, Barrier::NoBarrier) => true,
+        (Barrier::UpIn(held), Barrier::UpIn(written))
+        | (Barrier::DownIn(held), Barrier::DownIn(written))
+        | (Barrier::UpOut(held), Barrier::UpOut(written))
+        | (Barrier::DownOut(held), Barrier::DownOut(written)) => held == written,
+        _ => false,
     }
 }
 
@@ -99,26 +34,10 @@ fn same_barrier(h: Barrier, w: Barrier) -> bool
 pub fn same_terms(h: Terms, w: Terms) -> bool
     ensures { result ≡ same h w }
 {
-    let held = h.limiter;
-    let written = w.limiter;
-    let limiters = same_limiter(held, written);
-    let held = h.barrier;
-    let written = w.barrier;
-    let barriers = same_barrier(held, written);
-    (h.pe == w.pe) & limiters & barriers & (h.reb == w.reb)
-}
-
-// Whether a barrier is up-and-in or down-and-in.
-pub fn is_knock_in(barrier: Barrier) -> bool
-    ensures { result ≡ knock_in barrier }
-{
-    match barrier {
-        Barrier::NoBarrier => false,
-        Barrier::UpIn(_) => true,
-        Barrier::DownIn(_) => true,
-        Barrier::UpOut(_) => false,
-        Barrier::DownOut(_) => false,
-    }
+    (h.pe == w.pe)
+        & same_limiter(h.limiter, w.limiter)
+        & same_barrier(h.barrier, w.barrier)
+        & (h.reb == w.reb)
 }
 
 // Call with PEh ≤ PEw, put with PEh ≥ PEw.

@@ -9,7 +9,7 @@ use crate::words::{MOST_NUMBER_TEXT, put_number, put_word};
 use lines::{MOST_NUMBERS, line_at};
 use lines_and_total::{premium_total, settle};
 use refusals::refusal_number;
-use rules::{Line, MOST_LINES, MarginAnswer};
+use rules::{Line, MOST_LINES};
 
 // The most bytes of a line: `most_line_text` in contracts, as the next two are `most_totals_text` and `most_text`.
 const MOST_LINE_TEXT: usize = 5 + 4 * MOST_NUMBER_TEXT;
@@ -62,10 +62,8 @@ fn put_lines_text(text: &mut [u8], numbers: &[u64], count: usize) -> usize
     ensures { Put text.old text.new 0 result (lines_text (lines_from numbers.now count)) × (result ≤ most_line_text * count) }
 {
     let mut at: usize = 0;
-    let mut i: usize = 0;
-    while i < count {
+    for i in 0..count {
         at = put_line_text(text, at, line_at(numbers, i));
-        i += 1;
     }
     at
 }
@@ -102,14 +100,14 @@ pub fn put_margin_text(text: &mut [u8], file: &[u8]) -> usize
     let mut numbers = [0u64; MOST_NUMBERS];
     let answer = settle(file, MOST_LINES, &mut numbers);
     match answer {
-        MarginAnswer::Total(count, total) => {
-            let end = put_lines_text(text, &numbers, count);
-            put_totals_text(text, end, premium_total(file), total)
+        Ok(margin) => {
+            let end = put_lines_text(text, &numbers, margin.count);
+            put_totals_text(text, end, premium_total(file), margin.total)
         }
-        MarginAnswer::NoTotal(why, row) => put_refused_text(
+        Err(refused) => put_refused_text(
             text,
-            refusal_number(why) as u64,
-            row as u64,
+            refusal_number(refused.why) as u64,
+            refused.row as u64,
         ),
     }
 }

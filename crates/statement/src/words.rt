@@ -1,4 +1,4 @@
-// Words and numbers put into a text.
+// Words and numbers put into a text: a lent list, since there is no heap and `Put` says where each byte stands (a).
 ghost use Rattle.std.specs.Prelude.{◌+◌, ◌≤◌, length};
 ghost use Rattle.rules.specs.Output.{number_text};
 ghost use Rattle.statement.specs.Puts.{Put};
@@ -15,13 +15,9 @@ pub fn put_word(text: &mut [u8], at: usize, word: &[u8]) -> usize
     requires { at + length word.now ≤ length text.old }
     ensures { Put text.old text.new at result word.now }
 {
-    let n = word.len();
-    let mut i = 0;
-    while i < n {
-        text[at + i] = word[i];
-        i += 1;
-    }
-    at + n
+    let end = at + word.len();
+    text[at..end].copy_from_slice(word);
+    end
 }
 
 // A space and the number.

@@ -9,7 +9,7 @@ use lib.ListN.{length, set, length-set}
 use lib.Seq.{get_or-set_other, get_or-set_same}
 use Rattle.numbers.proofs.Order.{same, split}
 use Rattle.numbers.specs.Lists.{nth}
-use Rattle.tree.specs.Tree.{LeafPut, LeafSet, LeavesSet, Node, SameLeaves, Tree, leaf, sibling}
+use Rattle.tree.specs.Tree.{LeafPut, LeafSet, Node, SameLeaves, Tree, leaf, sibling}
 
 -- A store at i: what it leaves of node j, and what it makes of node i.
 module _ (t : List ℕ) (i y : ℕ) where
@@ -29,26 +29,6 @@ pub record Filled (p : ℕ) (old t : List ℕ) (i : ℕ) : Type 0 where
   pub nodes : (j : ℕ) → i ≤ j → j < p → Node t j
   pub leaves : SameLeaves p old t
   pub same_length : length t ≡ length old
-
-pub fill_more : (p : ℕ) (old t : List ℕ) (i y : ℕ) → 2 * p ≤ length old → 1 < i → Filled p old t i
-    → y ≡ min (nth t (2 * (i - 1))) (nth t (2 * (i - 1) + 1)) → Filled p old (set t (i - 1) y) (i - 1)
-fill_more p old t i y long more f e =
-    record {
-      high = omega (arith, f.high);
-      nodes = λ j a b. at j a b (split j i);
-      leaves = λ w l. other t (i - 1) y (p + w) (λ q. omega (arith, f.high)) ∙ f.leaves w l;
-      same_length = simp length-set f.same_length;
-    }
-  where
-    at : (j : ℕ) → i - 1 ≤ j → j < p → (j < i) ⊎ (i ≤ j) → Node (set t (i - 1) y) j
-    at j a b (inl s) =
-        let q : j ≡ i - 1 = omega arith in
-        rw q (node_here t (i - 1) y (omega (arith, f.same_length, f.high)) (omega arith) e)
-    at j a b (inr s) =
-        node_other t (i - 1) y j (f.nodes j s b) (λ q. omega arith) (λ q. omega arith) (λ q. omega arith)
-
-pub fill_end : (p : ℕ) (old t : List ℕ) (i : ℕ) → i ≤ 1 → Filled p old t i → Tree p t × SameLeaves p old t
-fill_end p old t i l f = (λ j a b. f.nodes j (omega arith) b, f.leaves)
 
 -- The nodes are right but for the one above node i, and the leaves are as they were where the climb began.
 pub record Climbed (p : ℕ) (start t : List ℕ) (i : ℕ) : Type 0 where
@@ -165,11 +145,3 @@ leaf_put p t w x long few =
       others = λ v l d. other t (p + w) x (p + v) (λ q. d (omega arith));
       same_length = simp length-set;
     }
-
--- One leaf more set.
-pub leaves_more : (p : ℕ) (t : List ℕ) (n x : ℕ) → 2 * p ≤ length t → n < p → LeavesSet p t n x → LeavesSet p (set t (p + n) x) (n + 1) x
-leaves_more p t n x long few f w l = go (same w n)
-  where
-    go : (w ≡ n) ⊎ (w ≡ n → ⊥) → leaf p (set t (p + n) x) w ≡ x
-    go (inl q) = rw q (get_or-set_same t (p + n) x 0 (omega arith))
-    go (inr d) = get_or-set_other t (p + n) (p + w) x 0 (λ (q : p + w ≡ p + n). d (omega arith)) ∙ f w (omega arith)

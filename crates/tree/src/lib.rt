@@ -21,9 +21,7 @@ pub fn fill(tree: &mut [u64], p: usize)
     requires { Leafed p tree.old }
     ensures { Tree p tree.new × SameLeaves p tree.old tree.new }
 {
-    let mut i = p;
-    while 1 < i {
-        i -= 1;
+    for i in (1..p).rev() {
         tree[i] = lesser_child(tree, i);
     }
 }
@@ -33,11 +31,7 @@ pub fn set_leaves(tree: &mut [u64], p: usize, x: u64)
     requires { Leafed p tree.old }
     ensures { LeavesSet p tree.new p x }
 {
-    let mut w = 0;
-    while w < p {
-        tree[p + w] = x;
-        w += 1;
-    }
+    tree[p..2 * p].fill(x);
 }
 
 // What node i's parent is where node i is x: the smaller of x and the parent's other child.
@@ -57,6 +51,7 @@ pub fn set_leaf(tree: &mut [u64], p: usize, w: usize, x: u64)
     let mut i = p + w;
     let mut y = x;
     tree[i] = y;
+    // A `while`, as i is halved and not counted: `iter::successors` would give the same i, and be no plainer.
     while 1 < i {
         y = parent_of(tree, i, y);
         i = i / 2;
@@ -64,7 +59,7 @@ pub fn set_leaf(tree: &mut [u64], p: usize, w: usize, x: u64)
     }
 }
 
-// Leaf w set to x, and the nodes above it made anew if `climb`.
+// Leaf w set to x, and the nodes above it made anew if `climb`, a flag that the clauses read (d).
 pub fn put_leaf(tree: &mut [u64], p: usize, w: usize, x: u64, climb: bool)
     requires { Leafed p tree.old × (w < p) × (climb ≡ true → Tree p tree.old) }
     ensures { LeafPut p tree.old tree.new w x × (climb ≡ true → Tree p tree.new) }

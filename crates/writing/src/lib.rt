@@ -1,7 +1,7 @@
 // Numbers, rows and a trailer stored into lent bytes, as document 01 lays them out.
 #![tactic(auto)]
 
-ghost use Rattle.std.specs.Prelude.{◌+◌, ◌≤◌, length, [], ◌∷◌, ◌≡◌};
+ghost use Rattle.std.specs.Prelude.{◌+◌, ◌≤◌, length, ◌≡◌};
 ghost use Rattle.std.proofs.lemmas.List.Edits.{sets};
 ghost use Rattle.rules.specs.File.{position_width, series_width, trailer_width};
 ghost use Rattle.rules.specs.Limits.{most_positions, most_series};
@@ -9,15 +9,13 @@ ghost use Rattle.rules.specs.Writing.{bytes4, bytes_of_position, bytes_of_series
 
 use rules::{POSITION_WIDTH, PositionRow, SERIES_WIDTH, SeriesRow, TRAILER_WIDTH};
 
-// Four bytes from a place of the file on.
-fn write_four(file: &mut [u8], at: usize, w: u8, x: u8, y: u8, z: u8)
-    requires { at + 4 ≤ length file.old }
-    ensures { file.new ≡ sets file.old at (w ∷ x ∷ y ∷ z ∷ []) }
+// Bytes from a place of the file on.
+#[tactic(auto, using(crate::proofs::RowsStored::part_stored))]
+fn write_bytes(file: &mut [u8], at: usize, bytes: &[u8])
+    requires { at + length bytes.now ≤ length file.old }
+    ensures { file.new ≡ sets file.old at bytes.now }
 {
-    file[at] = w;
-    file[at + 1] = x;
-    file[at + 2] = y;
-    file[at + 3] = z;
+    file[at..at + bytes.len()].copy_from_slice(bytes);
 }
 
 // The four little-endian bytes of a number from a place of the file on.
@@ -25,79 +23,52 @@ pub fn write_u32(file: &mut [u8], at: usize, v: u64)
     requires { at + 4 ≤ length file.old }
     ensures { file.new ≡ sets file.old at (bytes4 v) }
 {
-    write_four(
-        file,
-        at,
-        (v % 256) as u8,
-        (v / 256 % 256) as u8,
-        (v / 65_536 % 256) as u8,
-        (v / 16_777_216 % 256) as u8,
-    );
+    write_bytes(file, at, &v.to_le_bytes()[..4]);
 }
 
 // A series row from a place of the file on.
+#[tactic(auto, using(crate::proofs::RowsStored::series_stored))]
 pub fn write_series_row(file: &mut [u8], at: usize, row: SeriesRow)
     requires { at + series_width ≤ length file.old }
     ensures { file.new ≡ sets file.old at (bytes_of_series row) }
 {
-    write_u32(file, at, row.pv as u64);
-    write_u32(file, at + 4, row.fa as u64);
-    write_u32(file, at + 8, row.fb as u64);
-    write_u32(file, at + 12, row.f3 as u64);
-    write_u32(file, at + 16, row.m as u64);
-    write_four(
-        file,
-        at + 20,
-        (row.option % 256) as u8,
-        (row.spare % 256) as u8,
-        (row.spare / 256 % 256) as u8,
-        (row.spare / 65_536 % 256) as u8,
-    );
+    write_bytes(file, at, &row.pv.to_le_bytes());
+    write_bytes(file, at + 4, &row.fa.to_le_bytes());
+    write_bytes(file, at + 8, &row.fb.to_le_bytes());
+    write_bytes(file, at + 12, &row.f3.to_le_bytes());
+    write_bytes(file, at + 16, &row.m.to_le_bytes());
+    write_bytes(file, at + 20, &row.option.to_le_bytes()[..1]);
+    write_bytes(file, at + 21, &row.spare.to_le_bytes()[..3]);
 }
 
 // A position row from a place of the file on.
+#[tactic(auto, using(crate::proofs::RowsStored::position_stored))]
 pub fn write_position_row(file: &mut [u8], at: usize, row: PositionRow)
     requires { at + position_width ≤ length file.old }
     ensures { file.new ≡ sets file.old at (bytes_of_position row) }
 {
-    write_four(
-        file,
-        at,
-        (row.series % 256) as u8,
-        (row.series / 256 % 256) as u8,
-        (row.side % 256) as u8,
-        (row.kind % 256) as u8,
-    );
-    write_four(
-        file,
-        at + 4,
-        (row.flags % 256) as u8,
-        (row.blocked % 256) as u8,
-        (row.blocked / 256 % 256) as u8,
-        (row.blocked / 65_536 % 256) as u8,
-    );
-    write_u32(file, at + 8, row.q as u64);
-    write_u32(file, at + 12, row.pe as u64);
-    write_u32(file, at + 16, row.pb as u64);
-    write_u32(file, at + 20, row.price as u64);
-    write_u32(file, at + 24, row.reb as u64);
-    write_u32(file, at + 28, row.premium as u64);
+    write_bytes(file, at, &row.series.to_le_bytes()[..2]);
+    write_bytes(file, at + 2, &row.side.to_le_bytes()[..1]);
+    write_bytes(file, at + 3, &row.kind.to_le_bytes()[..1]);
+    write_bytes(file, at + 4, &row.flags.to_le_bytes()[..1]);
+    write_bytes(file, at + 5, &row.blocked.to_le_bytes()[..3]);
+    write_bytes(file, at + 8, &row.q.to_le_bytes());
+    write_bytes(file, at + 12, &row.pe.to_le_bytes());
+    write_bytes(file, at + 16, &row.pb.to_le_bytes());
+    write_bytes(file, at + 20, &row.price.to_le_bytes());
+    write_bytes(file, at + 24, &row.reb.to_le_bytes());
+    write_bytes(file, at + 28, &row.premium.to_le_bytes());
 }
 
 // The trailer of a file of s series and p positions, from a place of the file on.
+#[tactic(auto, using(crate::proofs::RowsStored::trailer_stored))]
 pub fn write_trailer(file: &mut [u8], at: usize, s: usize, p: usize)
     requires { (at + trailer_width ≤ length file.old) × (s ≤ most_series) × (p ≤ most_positions) }
     ensures { file.new ≡ sets file.old at (bytes_of_trailer s p) }
 {
-    write_four(
-        file,
-        at,
-        (s % 256) as u8,
-        (s / 256 % 256) as u8,
-        (p % 256) as u8,
-        (p / 256 % 256) as u8,
-    );
     let distance = TRAILER_WIDTH + SERIES_WIDTH * s + POSITION_WIDTH * p;
-    write_u32(file, at + 4, distance as u64);
-    write_u32(file, at + 8, 0);
+    write_bytes(file, at, &s.to_le_bytes()[..2]);
+    write_bytes(file, at + 2, &p.to_le_bytes()[..2]);
+    write_bytes(file, at + 4, &distance.to_le_bytes()[..4]);
+    write_bytes(file, at + 8, &[0; 4]);
 }

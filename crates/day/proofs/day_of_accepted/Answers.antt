@@ -2,11 +2,12 @@ use Rattle.account.proofs.KnownRows.{known}
 use Rattle.rules.proofs.DayPromises.{day_applied, prices_refused}
 use borrow.Author.Tests.{lt-leb}
 use native.Mathlib.Omega.{arith}
-use mathlib.Core.Path.{◌∙◌, refl, sym}
+use mathlib.Core.Path.{◌∙◌, ap, refl, sym}
+use Rattle.std.specs.Prelude.{Err}
 use Rattle.day.proofs.day_of_accepted.Goals as goal
 
 pub returns-then-wrong-clause-answer : goal.returns-then-wrong-clause-answer
-returns-then-wrong-clause-answer c = (prices_refused c.args.file.now c.args.d c.args.l c.requires _ (lt-leb c.args.l.series c.args.d.series (omega arith)) ((sym c.wrong_day-wrong.ensures) ∙ c.if-wrong.true) refl).0
+returns-then-wrong-clause-answer c = ap Err c.into-then-wrong.ensures ∙ (prices_refused c.args.file.now c.args.d c.args.l c.requires _ (lt-leb c.args.l.series c.args.d.series (omega arith)) ((sym c.wrong_day-wrong.ensures) ∙ c.if-wrong.true) refl).0
 
 pub returns-then-wrong-clause-bytes : goal.returns-then-wrong-clause-bytes
 returns-then-wrong-clause-bytes c = (prices_refused c.args.file.now c.args.d c.args.l c.requires _ (lt-leb c.args.l.series c.args.d.series (omega arith)) ((sym c.wrong_day-wrong.ensures) ∙ c.if-wrong.true) refl).1

@@ -1,9 +1,5 @@
-use Prim.Native.Nat.{◌-◌}
 use Rattle.load.proofs.LoadWriting.{Walked}
 use Rattle.load.proofs.write_load.Given as goal
 
 abbrev pub invariant-loop-r : goal.invariant-loop-r
 invariant-loop-r l = Walked l.seed l.p l.initial.buffer l.buffer l.t l.r
-
-abbrev pub decreases-loop-r : goal.decreases-loop-r
-decreases-loop-r l = l.p - l.r

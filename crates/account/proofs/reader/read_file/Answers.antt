@@ -1,21 +1,21 @@
+use Rattle.rules.proofs.SameAnswers.{given_back}
 use Rattle.rules.proofs.TrailerLimits.{placed, trailer_within}
 use Rattle.rules.specs.File.{layout}
 use Rattle.rules.specs.Limits.{Placed}
-use Rattle.rules.specs.Refusals.{file_read, or_else, series_rows}
-use Rattle.rules.specs.declared.Fault.{Fault}
+use Rattle.rules.specs.Refusals.{Fault, file_read, or_else, series_rows}
 use mathlib.Core.Path.{ap, subst, sym, ◌∙◌}
 use Rattle.account.proofs.reader.read_file.Goals as goal
 
 pub layout_of-requires : goal.layout_of-requires
-layout_of-requires c = trailer_within c.args.file.now (sym c.trailer_fault.ensures ∙ c.in-Clean.is)
+layout_of-requires c = trailer_within c.args.file.now (sym c.trailer_fault.ensures ∙ c.in_ok-trailer_fault.was)
 
 pub series_rows-requires : goal.series_rows-requires
-series_rows-requires c = let b = c.args.file.now in subst (Placed b) (sym c.layout_of.ensures) (placed b (trailer_within b (sym c.trailer_fault.ensures ∙ c.in-Clean.is)))
+series_rows-requires c = let b = c.args.file.now in subst (Placed b) (sym c.layout_of.ensures) (placed b (trailer_within b (sym c.trailer_fault.ensures ∙ c.in_ok-trailer_fault.was)))
 
-pub returns-in-Clean : goal.returns-in-Clean
+pub returns : goal.returns
 unfolding file_read
-returns-in-Clean c = let b = c.args.file.now in c.series_rows.ensures ∙ ap (series_rows b) c.layout_of.ensures ∙ ap (λ (f : Fault). or_else f 0 (series_rows b (layout b))) (sym c.in-Clean.is ∙ c.trailer_fault.ensures)
+returns c = let b = c.args.file.now in c.series_rows.ensures ∙ ap (series_rows b) c.layout_of.ensures ∙ ap (λ (f : Fault). or_else f 0 (series_rows b (layout b))) (sym c.in_ok-trailer_fault.was ∙ c.trailer_fault.ensures)
 
-pub returns-in-Found : goal.returns-in-Found
+pub returns-in_err-trailer_fault : goal.returns-in_err-trailer_fault
 unfolding file_read
-returns-in-Found c = let b = c.args.file.now in ap (λ (f : Fault). or_else f 0 (series_rows b (layout b))) (sym c.in-Found.is ∙ c.trailer_fault.ensures)
+returns-in_err-trailer_fault c = let b = c.args.file.now in given_back _ c.from_residual.ensures.1 ∙ ap (λ (f : Fault). or_else f 0 (series_rows b (layout b))) (sym c.in_err-trailer_fault.was ∙ c.trailer_fault.ensures)

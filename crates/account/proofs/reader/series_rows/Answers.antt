@@ -4,8 +4,8 @@ use mathlib.Core.Path.{ap}
 use mathlib.Core.Path.{sym, ◌∙◌}
 use Rattle.account.proofs.reader.series_rows.Goals as goal
 
-pub returns-in-loop-at : goal.returns-in-loop-at
-returns-in-loop-at c = series_stop c.args.file.now c.args.l c.loop-at.at c.in-Found.why c.loop-at-test.true c.loop-at.invariant.1 (ap series_row_fault (sym c.series_row.ensures) ∙ sym c.series_row_fault.ensures ∙ c.in-Found.is)
+pub returns-in-Err : goal.returns-in-Err
+returns-in-Err c = series_stop c.args.file.now c.args.l c.loop-row.row c.in-Err.why c.loop-row-test.true c.loop-row.invariant (ap series_row_fault (sym c.series_row.ensures) ∙ sym c.series_row_fault.ensures ∙ c.in-Err.is)
 
 pub returns : goal.returns
-returns c = c.position_rows.ensures ∙ all_series_clean c.args.file.now c.args.l c.loop-at.at c.loop-at-test.false c.loop-at.invariant.1
+returns c = c.position_rows.ensures ∙ all_series_clean c.args.file.now c.args.l c.loop-row.row c.loop-row-test.false c.loop-row.invariant

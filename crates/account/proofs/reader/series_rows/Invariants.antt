@@ -1,10 +1,6 @@
-use Prim.Native.Nat.{◌≤◌, ◌-◌}
 use Rattle.rules.proofs.Scan.{CleanTo}
 use Rattle.rules.specs.Refusals.{series_fault}
 use Rattle.account.proofs.reader.series_rows.Given as goal
 
-abbrev pub invariant-loop-at : goal.invariant-loop-at
-invariant-loop-at l = (l.at ≤ l.s) × CleanTo (series_fault l.file l.l) l.at
-
-abbrev pub decreases-loop-at : goal.decreases-loop-at
-decreases-loop-at l = l.s - l.at
+abbrev pub invariant-loop-row : goal.invariant-loop-row
+invariant-loop-row l = CleanTo (series_fault l.file l.l) l.row

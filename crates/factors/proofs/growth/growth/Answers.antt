@@ -13,21 +13,21 @@ product-most r d n x k h e l =
     mul-le-mul {n₂ = most_growth}
     (omega (arith, e, growth_most r d k h.rounding_most h.daily_most (omega (arith, h.days_most)))) h.daily_most
 
-pub loop-k-init : goal.loop-k-init
+pub loop-init : goal.loop-init
 unfolding multiplied
-loop-k-init c = (refl, omega arith)
+loop-init c = refl
 
 pub overflow_mul-x : goal.overflow_mul-x
 overflow_mul-x c =
     let a = c.args in
-    omega (arith, product-most a.rounding a.d a.n c.loop-k.x c.loop-k.k c.requires c.loop-k.invariant.0 c.loop-k.invariant.1)
+    omega (arith, product-most a.rounding a.d a.n c.loop.x c.loop.counter c.requires c.loop.invariant c.loop.auto.counter-end)
 
 pub overflow_add-x : goal.overflow_add-x
 overflow_add-x c =
     let a = c.args in
     omega
-    (arith, c.requires.rounding_most, product-most a.rounding a.d a.n c.loop-k.x c.loop-k.k c.requires c.loop-k.invariant.0 c.loop-k.invariant.1)
+    (arith, c.requires.rounding_most, product-most a.rounding a.d a.n c.loop.x c.loop.counter c.requires c.loop.invariant c.loop.auto.counter-end)
 
-pub loop-k-preserved : goal.loop-k-preserved
+pub loop-preserved : goal.loop-preserved
 unfolding multiplied
-loop-k-preserved c = (rw (add-one c.loop-k.k, c.loop-k.invariant.0), omega arith)
+loop-preserved c = rw (add-one c.loop.counter, c.loop.invariant) refl

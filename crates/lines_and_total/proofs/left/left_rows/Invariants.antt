@@ -1,4 +1,3 @@
-use Prim.Native.Nat.{◌-◌, ◌≤◌}
 use Rattle.lines_and_total.specs.Listing.{Added, shown_left}
 use Rattle.numbers.specs.Lists.{nth}
 use Rattle.rules.specs.File.{account_of}
@@ -6,7 +5,4 @@ use Rattle.rules.specs.Lines.{left_lines}
 use Rattle.lines_and_total.proofs.left.left_rows.Given as goal
 
 abbrev pub invariant-loop-row : goal.invariant-loop-row
-invariant-loop-row l = (l.row ≤ l.p) × Added (left_lines (account_of l.file l.l) (shown_left (account_of l.file l.l) (nth l.left)) l.row) l.initial.numbers l.numbers l.initial.t l.t
-
-abbrev pub decreases-loop-row : goal.decreases-loop-row
-decreases-loop-row l = l.p - l.row
+invariant-loop-row l = Added (left_lines (account_of l.file.bytes.now l.file.layout) (shown_left (account_of l.file.bytes.now l.file.layout) (nth l.left)) l.row) l.initial.numbers l.numbers l.initial.t l.t

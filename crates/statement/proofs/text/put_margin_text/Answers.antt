@@ -1,14 +1,14 @@
 use Rattle.statement.proofs.MarginLaws.{accepted_put, refused_file_put}
 use Rattle.statement.proofs.text.put_margin_text.Goals as goal
 
-pub returns-in-Total : goal.returns-in-Total
-returns-in-Total c =
+pub returns-in-Ok : goal.returns-in-Ok
+returns-in-Ok c =
     let s = c.settle-answer in
-    accepted_put c.args.file.now s.new.numbers s.result s.ensures c.in-Total.count c.in-Total.total c.premium_total.result c.in-Total.is
+    accepted_put c.args.file.now s.new.numbers s.result s.ensures c.in-Ok.margin.count c.in-Ok.margin.total c.premium_total.result c.in-Ok.is
     c.premium_total.ensures c.put_lines_text-end.ensures c.put_totals_text.ensures
 
-pub returns-in-NoTotal : goal.returns-in-NoTotal
-returns-in-NoTotal c =
+pub returns-in-Err : goal.returns-in-Err
+returns-in-Err c =
     let s = c.settle-answer in
-    refused_file_put c.args.file.now s.new.numbers s.result s.ensures c.in-NoTotal.why c.refusal_number.result c.in-NoTotal.row c.in-NoTotal.is
+    refused_file_put c.args.file.now s.new.numbers s.result s.ensures c.in-Err.refused.why c.refusal_number.result c.in-Err.refused.row c.in-Err.is
     c.refusal_number.ensures c.put_refused_text.ensures
