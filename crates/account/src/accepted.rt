@@ -1,4 +1,5 @@
-// A file once it has been read and accepted. Every function that works on an accepted file takes this.
+// A file once it has been read and accepted. Functions that read an accepted file take this; those of a day write its bytes and
+// take them with the layout.
 ghost use Rattle.std.specs.Prelude.{Ok, ◌≡◌};
 ghost use Rattle.rules.specs.Refusals.{file_read};
 

@@ -22,7 +22,7 @@ pub fn position_read(file: &[u8], l: Layout, i: usize) -> Result<Position, Refus
     Ok(row.into())
 }
 
-// The position rows, the trailer and the series rows being clean.
+// The position rows, the trailer and the series rows being clean. Bytes and layout stay apart: the file may still be refused (a).
 fn position_rows(file: &[u8], l: Layout) -> Result<Layout, Refused>
     requires { Placed file.now l }
     ensures { result ≡ position_rows file.now l }

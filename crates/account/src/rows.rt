@@ -54,6 +54,7 @@ pub fn layout_of(file: &[u8]) -> Layout
     }
 }
 
+// The two rows have other fields; what their readers share are calls (d).
 pub fn series_row_from(file: &[u8], at: usize) -> SeriesRow
     requires { at + series_width ≤ length file.now }
     ensures { result ≡ series_row_from file.now at }

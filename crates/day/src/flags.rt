@@ -9,7 +9,8 @@ use account::rows::position_row;
 use rules::values::barrier_of;
 use rules::{Barrier, Day, Layout};
 
-// The day knocked the barrier in.
+// The day knocked the barrier in. Of the same shape as the next: each matches the kinds that its definition has, and one for both
+// would take these as an argument (d).
 fn crossed_in(d: Day, barrier: Barrier) -> bool
     ensures { result ≡ crossed_in d barrier }
 {
@@ -57,7 +58,7 @@ fn write_row_flags(file: &mut [u8], l: Layout, d: Day, r: usize)
     }
 }
 
-// Writes the flags of all rows of the day's series.
+// Writes the flags of all rows of the day's series. Bytes and layout stay apart, since the bytes are written (a).
 pub fn write_flags(file: &mut [u8], l: Layout, d: Day)
     requires { Known file.old l }
     ensures { file.new ≡ flags_written file.old l d l.positions }

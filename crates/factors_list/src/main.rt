@@ -5,8 +5,6 @@
 use factors::factors;
 use roots::MOST_DAYS;
 
-const GREATEST: u64 = 18_446_744_073_709_551_615;
-
 // A code, a number of days, and what they are answered.
 fn print_factors(rt: &impl Print, code: u64, days: u64) {
     let _ = match factors(code, days) {
@@ -21,7 +19,7 @@ fn main(rt: HostRuntime) {
             print_factors(&rt, code, days);
         }
     }
-    for (code, days) in [(4, 0), (GREATEST, 0), (0, GREATEST)] {
+    for (code, days) in [(4, 0), (u64::MAX, 0), (0, u64::MAX)] {
         print_factors(&rt, code, days);
     }
 }

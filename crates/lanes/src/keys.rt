@@ -11,7 +11,7 @@ use rules::{Barrier, Position, Side};
 // What stands for no key, no rank and no distance. A number and no Option: the tree is of numbers, and `LeastKey` says it (a).
 pub const NONE: u64 = 1_152_921_504_606_846_976;
 
-// Where the down lane counts from.
+// Where the down lane counts from: a number, as keys are (a: `down_key`).
 pub const LAST: u64 = 281_474_976_710_656;
 
 // Families and roles are numbers: a mark has them in one number, `Marks.mark_of` (a).

@@ -10,8 +10,6 @@ use load::{MOST_SEED, load};
 // The longest buffer.
 const MOST_ROOM: usize = 8_300;
 
-const GREATEST: u64 = 18_446_744_073_709_551_615;
-
 // Makes a load in a buffer of so much room, and writes what is answered and the buffer's bytes.
 fn print_load(rt: &impl Print, seed: u64, p: u64, room: usize)
     requires { room ≤ 8_300 }
@@ -48,7 +46,7 @@ fn print_seeds(rt: &impl Print) {
 
 // Seeds out of their range.
 fn print_refused_seeds(rt: &impl Print) {
-    for seed in [0, MOST_SEED + 1, 4_294_967_297, GREATEST] {
+    for seed in [0, MOST_SEED + 1, 4_294_967_297, u64::MAX] {
         print_load(rt, seed, 1, 68);
     }
 }
@@ -59,7 +57,7 @@ fn print_refused_numbers(rt: &impl Print) {
         (0, 68),
         (257, MOST_ROOM),
         (4_294_967_297, MOST_ROOM),
-        (GREATEST, MOST_ROOM),
+        (u64::MAX, MOST_ROOM),
         (576_460_752_303_423_488, 68),
     ] {
         print_load(rt, 1, p, room);

@@ -171,7 +171,7 @@ impl RowsNow<'_> {
         self.renew_some(tree, places, w, times);
     }
 
-    // The least rank of all self. A rank only rises while contracts fall, so that a stale leaf, or one whose pair was not asked
+    // The least rank of all rows. A rank only rises while contracts fall, so that a stale leaf, or one whose pair was not asked
     // about, is a lower bound: the least is looked at again until it is settled.
     pub fn best_rank(&self, tree: &mut [u64], places: &mut [u64]) -> u64
         requires { RowsAsked self.now tree.old places.old }

@@ -43,6 +43,7 @@ impl From<u32> for Flags {
     }
 }
 
+// The kind is the row's number, which `wrong_terms` refuses above 4 (a). No `From`, which takes one value (d).
 pub fn barrier_of(kind: u32, price: u32) -> Barrier
     ensures { result ≡ barrier_of kind price }
 {
@@ -55,6 +56,7 @@ pub fn barrier_of(kind: u32, price: u32) -> Barrier
     }
 }
 
+// No `From`, which takes one value (d).
 pub fn limiter_of(limited: bool, pb: u32) -> Limiter
     ensures { result ≡ limiter_of limited pb }
 {

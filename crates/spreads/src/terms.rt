@@ -30,7 +30,7 @@ fn same_barrier(h: Barrier, w: Barrier) -> bool
     }
 }
 
-// Same PE, limiter, barrier and REB.
+// Same PE, limiter, barrier and REB: no derived equality, since document 01 has them compared by match (a).
 pub fn same_terms(h: Terms, w: Terms) -> bool
     ensures { result ≡ same h w }
 {

@@ -1,5 +1,5 @@
 // A tournament tree of minima over p leaves: node i, from 1 to p - 1, is the smaller of nodes 2i and 2i + 1; leaf w is node
-// p + w; node 1 is the least of all leaves.
+// p + w; node 1 is the least of all leaves. Nodes are numbers in one list, of fixed size, and `Tree` speaks of it (a).
 #![tactic(auto)]
 
 ghost use Rattle.std.specs.Prelude.{◌+◌, ◌*◌, ◌<◌, min, length, true, ◌≡◌};
