@@ -1,7 +1,7 @@
 // Many files on one input, one after the other: each is its length in four little-endian bytes and then its bytes.
 #![tactic(auto)]
 
-ghost use Rattle.std.specs.Prelude.{◌≤◌, length, ◌≡◌, IfErr, IfOk, OnOk, ◌⊎◌};
+ghost use Rattle.std.specs.Prelude.{◌≤◌, length, ◌≡◌, IfErr, IfOk, OnOk, Some, codes, ◌⊎◌};
 ghost use Rattle.framing.specs.Frames.{frame_length};
 ghost use Rattle.framing.specs.Runs.{CutOffAfter, TookAll, TurnedDown, most_files};
 
@@ -17,6 +17,8 @@ const MOST_FILES: u32 = 1_000_000_000;
 pub struct CutOff;
 
 impl fmt::Display for CutOff {
+    ghost output = { λ _. Some (codes "cut off") };
+
     fn fmt<W: fmt::Write>(&self, f: &mut fmt::Formatter<W>) -> fmt::Result {
         write!(f, "cut off")
     }

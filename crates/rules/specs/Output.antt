@@ -1,7 +1,7 @@
 -- Document 01, Checked values: what the margin program prints, in ASCII. "Output, in the field order above, or `refused`
 -- with number and row": a line a pair, a line a row left, `premium`, `total`. A number stands after a space, a line ends
 -- in a line feed.
-use Rattle.std.specs.Prelude.{ℕ, zero, suc, ◌+◌, ◌/◌, ◌%◌, cond, List, [], ◌∷◌, ◌++◌, eqb, ltb, Result, Ok, Err}
+use Rattle.std.specs.Prelude.{ℕ, zero, suc, ◌+◌, ◌/◌, ◌%◌, cond, List, [], ◌∷◌, ◌++◌, decimal, eqb, ltb, Result, Ok, Err}
 use Rattle.rules.specs.File.{account_of}
 use Rattle.rules.specs.Lines.{lines_given, margin_answer, most_lines, premiums}
 use Rattle.rules.specs.Refusals.{file_read, number}
@@ -69,6 +69,11 @@ totals_text premium sum =
 -- "`refused` with number and row"
 unfoldable pub refused_text : ℕ → ℕ → List ℕ
 refused_text n row = ((refused_word ++ number_text n) ++ number_text row) ++ line_feed
+
+-- A refusal's "number and row" alone, in decimal digits with a space between them: what the programs beside margin write of
+-- it after the word.
+abbrev pub refusal_text : Refused → List ℕ
+refusal_text refusal = decimal (number refusal.why) ++ (32 ∷ decimal refusal.row)
 
 -- "premium × M × Q of every held row", 0 where the file is refused.
 abbrev pub premiums_for : List ℕ → Result Layout Refused → ℕ

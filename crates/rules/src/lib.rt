@@ -2,7 +2,8 @@
 // the theorems about them.
 #![tactic(auto)]
 
-ghost use Rattle.std.specs.Prelude.{◌≡◌};
+ghost use Rattle.std.specs.Prelude.{◌≡◌, Some};
+ghost use Rattle.rules.specs.Output.{refusal_text};
 
 use std::fmt;
 
@@ -182,6 +183,8 @@ pub struct Refused {
 
 // A refusal as the programs print it: number and row.
 impl fmt::Display for Refused {
+    ghost output = { λ refused. Some (refusal_text refused) };
+
     fn fmt<W: fmt::Write>(&self, f: &mut fmt::Formatter<W>) -> fmt::Result {
         write!(f, "{} {}", self.why as u32, self.row)
     }
